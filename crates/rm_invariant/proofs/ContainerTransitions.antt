@@ -1,15 +1,9 @@
 -- Each move brings the state of a container in the book along a row of its table, or leaves it.
-use Rattle.rm_invariant.proofs.Common.{◌≡◌, ◌⊎◌, inl, inr, ℕ, ◌+◌, List, [], ◌∷◌, ◌++◌, Bool, true, false, ◌&&◌, ◌||◌, not, Option, None, Some, filter, find, map, refl, sym, ◌∙◌, ap, subst, arith, nat_tests, if◌then◌else◌, list_any, bytes_eq, Ask, BookRow, Cause, Closing, ContainerState, Acquired, Running, Grant, Held, Entry, AttemptId, ContainerId, ClientAsk, ClockAsk, MasterAsk, NodeAsk, Op, Reply, Resource, is_container, same_container, AttemptState, BookOf, entering, granted_rows, is_of, book_row_taken, taken_rows, with_grants, book_with_taken, without_rows, is_held, is_granted, once, has_container, reported, master_reply, Scene, MainEvent, SchedEvent, NodeRow, AppRow, Current, Dialogue, Tables, absorbed_by, absorbed_if, taken_in, main_worked, sched_worked, kept, ended_by, is_masters_in, main_step, is_waiting_row, node_row, grants_on, updated_by, is_released, queued_at, queued_by, queued_with, sched_step, History, abstract_scene, RefinesLife, after_client, taken_by, wished_by, acquired, acquired_row, after_master, is_new_to, goes_on, spoken_by, after_clock, after_node, beaten_book, is_next_beat, is_row_on, is_untold_row, registered_by}
-use Rattle.std.proofs.Common.{◌==◌, nat_lt, IfSome, is_some, option_map}
-use Rattle.rm_types.specs.declared.containers.Cause.TheVariants as causes
+use Rattle.rm_invariant.proofs.Common.{◌≡◌, ◌⊎◌, inl, inr, ℕ, ◌+◌, List, [], ◌∷◌, ◌++◌, Bool, true, false, ◌&&◌, not, Option, None, Some, filter, find, map, refl, sym, ◌∙◌, ap, subst, arith, nat_tests, if◌then◌else◌, list_any, bytes_eq, Ask, BookRow, Closing, ContainerState, Acquired, Running, Grant, Held, Entry, AttemptId, ContainerId, ClientAsk, ClockAsk, MasterAsk, NodeAsk, Op, Reply, Resource, is_container, same_container, BookOf, entering, granted_rows, is_of, book_row_taken, taken_rows, with_grants, book_with_taken, without_rows, is_held, is_granted, has_container, reported, master_reply, Scene, MainEvent, SchedEvent, AppRow, Dialogue, Tables, main_worked, sched_worked, kept, is_masters_in, main_step, sched_step, History, abstract_scene, RefinesLife, after_client, acquired, acquired_row, after_master, is_new_to, after_clock, after_node, beaten_book, is_row_on, is_untold_row, Message, spoken_by}
+use Rattle.std.proofs.Common.{◌==◌, IfSome, is_some, option_map}
 use Rattle.rm_types.specs.declared.containers.ContainerState.TheVariants.{Granted, Completed}
-use Rattle.rm_types.specs.declared.messages.ClientAsk.TheVariants as clients
-use Rattle.rm_types.specs.declared.messages.ClockAsk.TheVariants as clocks
-use Rattle.rm_types.specs.declared.messages.MasterAsk.TheVariants as masters
-use Rattle.rm_types.specs.declared.messages.NodeAsk.TheVariants as asks
 use Rattle.rm_types.specs.declared.operations.Op.TheVariants as ops
 use Rattle.rm_types.specs.declared.replies.Reply.TheVariants as replies
-use Rattle.rm_states.specs.declared.attempt.states.AttemptState.TheVariants as attempts
 use Rattle.rm_states.specs.declared.container.states.ContainerEvent.TheVariants.{Tell, Run, End}
 use Rattle.rm_states.specs.declared.container.states.ContainerAction.TheVariants.{Nothing}
 use Rattle.rm_states.specs.container.Table.{ContainerTransition as ContainerTableRow}
@@ -17,18 +11,23 @@ use Rattle.rm_book.specs.Books.{AreLiving, IsBook, is_living_state, book_row}
 use Rattle.rm_book.specs.Granted.{AllMayBeTold, grants_to, may_be_told}
 use Rattle.rm_book.proofs.UntoldGrants.{granted_to_told, told_filter}
 use Rattle.rm_tables.specs.declared.events.MainEvent.TheVariants as mains
-use Rattle.rm_tables.specs.declared.events.SchedEvent.TheVariants as scheds
 use Rattle.rm_tables.specs.Rows.{row_of as row_of_app}
-use Rattle.rm_tables.specs.SchedEvents.{is_on as is_there_on}
 use Rattle.rm_master.specs.Answers.{ids_granted}
 use Rattle.rm_master.specs.Told.{allocate_told, allocated_told, asks_too_much, grants_told, asks_too_many, living_row, master_told, new_told, spoken_in, spoken_told}
 use Rattle.rm_master.proofs.Served.{master_answer}
 use Rattle.rm_tracker.proofs.Alike.{beaten_at_once, book_at_once}
-use Rattle.rm_invariant.specs.events.Outcomes.{Outcome, accepts, adds, delays, ends, ends_one, follows, idles, issues, kills, loses, orders, removes, requeues, saves}
+use Rattle.rm_invariant.specs.events.Outcomes.{Outcome, idles}
 use Rattle.rm_invariant.proofs.events.Outcomes.{main_outcome}
 use Rattle.rm_invariant.specs.Invariant.{LifeInvariant}
 use Rattle.rm_invariant.proofs.MessagesPreserve.{life_shown}
 use Rattle.rm_invariant.specs.Transitions.{BookFollowsTable, BookRowFollowsTable, ContainerFollowsTable}
+use Rattle.rm_invariant.proofs.events.SchedShapes.{BookAfter, sched_shape}
+use Rattle.rm_types.specs.declared.messages.Message.TheVariants as messages
+use Rattle.rm_tracker.specs.Answers.{launched_by}
+use Rattle.rm_master.specs.Answers.{containers_told}
+use Rattle.rm_invariant.specs.messages.Outcomes.{MessageOutcome, after_message, serves_allocation}
+use Rattle.rm_invariant.specs.messages.Outcomes as comes
+use Rattle.rm_invariant.proofs.messages.Outcomes.{message_outcome}
 
 -- ROWS
 
@@ -336,129 +335,37 @@ module _ (book : BookOf) (lawful : IsBook book) where
 -- the main queue changes no container
 pub main_containers : (t : Tables) (done : Entry × Tables) → Outcome t done → BookFollowsTable t.book (main_worked done).1.book
 main_containers t done idles = book_stays t.book
-main_containers t done (saves id row submission rest found waits front) = book_stays t.book
-main_containers t done (adds id row behind found st at_front) = book_stays t.book
-main_containers t done (accepts id row found st) = book_stays t.book
-main_containers t done (ends id row how text found stopped is) = book_stays t.book
-main_containers t done (kills id row current at_ number alive going) = book_stays t.book
-main_containers t done (delays id row current at_ waits going) = book_stays t.book
-main_containers t done (issues container node row current at_ st number mine place) = book_stays t.book
-main_containers t done (requeues container row current behind at_ st number mine place at_front) = book_stays t.book
-main_containers t done (orders id container node row current at_ number alive master place) = book_stays t.book
-main_containers t done (ends_one id row current how text at_ number alive is) = book_stays t.book
-main_containers t done (loses container row current at_ st number mine) = book_stays t.book
-main_containers t done (follows id row current at_ going st none) = book_stays t.book
-main_containers t done (removes id more first many) = book_stays t.book
+main_containers t done _ = book_stays t.book
 
 pub main_event_containers : (t : Tables) (e : MainEvent) (rest : List MainEvent) → t.main ≡ e ∷ rest → BookFollowsTable t.book (main_worked (main_step e t)).1.book
 main_event_containers t mains.EpochStart rest front = book_stays t.book
-main_event_containers t mains.Retire rest front = main_containers t (main_step mains.Retire t) (main_outcome t mains.Retire rest front (λ x. cc))
-main_event_containers t (mains.AppStart id) rest front = main_containers t (main_step (mains.AppStart id) t) (main_outcome t (mains.AppStart id) rest front (λ x. cc))
-main_event_containers t (mains.AppSaved id) rest front = main_containers t (main_step (mains.AppSaved id) t) (main_outcome t (mains.AppSaved id) rest front (λ x. cc))
-main_event_containers t (mains.AppAccepted id) rest front = main_containers t (main_step (mains.AppAccepted id) t) (main_outcome t (mains.AppAccepted id) rest front (λ x. cc))
-main_event_containers t (mains.AppKill id) rest front = main_containers t (main_step (mains.AppKill id) t) (main_outcome t (mains.AppKill id) rest front (λ x. cc))
-main_event_containers t (mains.MasterGranted container) rest front = main_containers t (main_step (mains.MasterGranted container) t) (main_outcome t (mains.MasterGranted container) rest front (λ x. cc))
-main_event_containers t (mains.AttemptSaved id) rest front = main_containers t (main_step (mains.AttemptSaved id) t) (main_outcome t (mains.AttemptSaved id) rest front (λ x. cc))
-main_event_containers t (mains.MasterLost container) rest front = main_containers t (main_step (mains.MasterLost container) t) (main_outcome t (mains.MasterLost container) rest front (λ x. cc))
-main_event_containers t (mains.AttemptExpired id) rest front = main_containers t (main_step (mains.AttemptExpired id) t) (main_outcome t (mains.AttemptExpired id) rest front (λ x. cc))
-main_event_containers t (mains.AttemptFinish id) rest front = main_containers t (main_step (mains.AttemptFinish id) t) (main_outcome t (mains.AttemptFinish id) rest front (λ x. cc))
-main_event_containers t (mains.AttemptDone id) rest front = main_containers t (main_step (mains.AttemptDone id) t) (main_outcome t (mains.AttemptDone id) rest front (λ x. cc))
+main_event_containers t e rest front = main_containers t (main_step e t) (main_outcome t e rest front (λ x. cc))
 
 -- an operation that is kept changes no container
 pub kept_containers : (t : Tables) (op : Op) → BookFollowsTable t.book (kept op t).book
 kept_containers t (ops.Epoch next stamp) = book_stays t.book
-kept_containers t (ops.App id s) = book_stays t.book
-kept_containers t (ops.Attempt id master node) = book_stays t.book
-kept_containers t (ops.AttemptEnd id how text) = book_stays t.book
-kept_containers t (ops.AppEnd id how text) = book_stays t.book
-kept_containers t (ops.Remove id) = book_stays t.book
+kept_containers t _ = book_stays t.book
 
 module _ (t : Tables) (lawful : IsBook t.book) where
   still : BookFollowsTable t.book t.book
   still = book_stays t.book
 
-  ended_containers : (cause : Cause) (ids : List ContainerId) → BookFollowsTable t.book (ended_by cause ids t).1.book
-  ended_containers cause [] = still
-  ended_containers cause (one ∷ ids) = left_goes t.book lawful (one ∷ ids)
-
-  queued_containers : (o : Option AppRow) (id : AttemptId) → BookFollowsTable t.book (queued_by o id t).1.book
-  queued_containers None id = still
-  queued_containers (Some row) id = by row.current
-    where
-      at_state : (s : AttemptState) (b : Bool) → BookFollowsTable t.book (queued_at s b id t).1.book
-      at_state attempts.Scheduled true = still
-      at_state attempts.Scheduled false = still
-      at_state _ b = still
-
-      by : (o : Option Current) → BookFollowsTable t.book (queued_with o id t).1.book
-      by None = still
-      by (Some current) = at_state current.state (current.number == id.number)
-
-  absorbed_containers : (o : Option NodeRow) (name : List ℕ) (turn : ℕ) (ended : List ContainerId) → BookFollowsTable t.book (absorbed_by o name turn ended t).1.book
-  absorbed_containers None name turn ended = still
-  absorbed_containers (Some row) name turn ended = by (is_waiting_row row.state && (row.turn == turn))
-    where
-      by : (b : Bool) → BookFollowsTable t.book (absorbed_if b name row ended t).1.book
-      by true = taken_goes t.book lawful name row.capability (taken_in t name row) ended
-      by false = still
-
-  updated_containers : (o : Option NodeRow) (name : List ℕ) → BookFollowsTable t.book (updated_by o name t).1.book
-  updated_containers None name = still
-  updated_containers (Some row) name = granted_goes t.book lawful (grants_on name row t)
-
   -- the scheduler's queue
   pub sched_containers : (e : SchedEvent) (list : List ContainerId) → BookFollowsTable t.book (sched_worked (sched_step e list t)).1.book
-  sched_containers (scheds.AppAdded id) list = still
-  sched_containers (scheds.AttemptRecovered id) list = still
-  sched_containers (scheds.AttemptAdded id) list = queued_containers (row_of_app t.rows id.app) id
-  sched_containers (scheds.AttemptRemoved id) list = ended_containers causes.Attempt list
-  sched_containers (scheds.Release attempt released) list = ended_containers causes.Released (once (filter (is_released attempt t) released))
-  sched_containers (scheds.NodeAdded node turn) list = absorbed_containers (node_row t.nodes node) node turn list
-  sched_containers (scheds.NodeDone node done) list = ended_containers causes.Done (once (filter (λ id. is_there_on node (book_row t.book id)) done))
-  sched_containers (scheds.NodeUpdate node) list = updated_containers (node_row t.nodes node) node
-  sched_containers (scheds.NodeLost node) list = ended_containers causes.Node list
-
-  -- messages
-  pub node_containers : (name : List ℕ) (ask : NodeAsk) (reply : Reply) → BookFollowsTable t.book (after_node name ask reply t).book
-  node_containers name (asks.Register turn capability running) reply = by (node_row t.nodes name)
+  sched_containers e list = by (sched_step e list t).1.book (sched_shape t list e).book
     where
-      later : (row : NodeRow) (b : Bool) → nat_lt row.turn turn ≡ b → BookFollowsTable t.book (registered_by (Some row) name turn capability running reply t).book
-      later row true e = rw e still
-      later row false e = rw e still
+      by : (next : BookOf) → BookAfter t.book next → BookFollowsTable t.book next
+      by next BookAfter.same = still
+      by next (BookAfter.left_so ids) = left_goes t.book lawful ids
+      by next (BookAfter.absorbed_so name capability taken ids) = taken_goes t.book lawful name capability taken ids
+      by next (BookAfter.granted_so grants) = granted_goes t.book lawful grants
 
-      by : (o : Option NodeRow) → BookFollowsTable t.book (registered_by o name turn capability running reply t).book
-      by None = still
-      by (Some row) = later row (nat_lt row.turn turn) refl
-  node_containers name (asks.Beat id running done) (replies.Beat next launched clean) = by (is_next_beat id (node_row t.nodes name)) refl
-    where
-      by : (b : Bool) → is_next_beat id (node_row t.nodes name) ≡ b → BookFollowsTable t.book (after_node name (asks.Beat id running done) (replies.Beat next launched clean) t).book
-      by true e = rw e (beaten_goes t.book lawful name (reported running) launched)
-      by false e = rw e still
-  node_containers name (asks.Beat id running done) _ = still
+  -- MESSAGES
 
-  pub clock_containers : (ask : ClockAsk) (reply : Reply) → BookFollowsTable t.book (after_clock ask reply t).book
-  clock_containers (clocks.ExpireNode name) replies.Ok = still
-  clock_containers (clocks.Tick time) replies.Ok = still
-  clock_containers (clocks.ExpireMaster attempt) replies.Ok = still
-  clock_containers _ _ = still
-
-  pub client_containers : (ask : ClientAsk) (reply : Reply) → BookFollowsTable t.book (after_client ask reply t).book
-  client_containers (clients.Submit id s) replies.Submitted = by (row_of_app t.rows id)
-    where
-      by : (o : Option AppRow) → BookFollowsTable t.book (taken_by o id s t).book
-      by None = still
-      by (Some row) = still
-  client_containers (clients.Kill id) replies.Killing = by (row_of_app t.rows id)
-    where
-      wishes : (row : AppRow) (b : Bool) → row.wish ≡ b → BookFollowsTable t.book (wished_by (Some row) id t).book
-      wishes row true e = rw e still
-      wishes row false e = rw e still
-
-      by : (o : Option AppRow) → BookFollowsTable t.book (wished_by o id t).book
-      by None = still
-      by (Some row) = wishes row row.wish refl
-  client_containers clients.New (replies.New id) = still
-  client_containers _ _ = still
+  -- a master is answered as the tables tell
+  abbrev IsToldSo : Message → Reply → Type 0
+  IsToldSo (messages.Master attempt ask) reply = reply ≡ master_told t attempt ask
+  IsToldSo _ reply = Unit {0}
 
   -- a new allocation tells of what was granted and nobody was told of yet, and of that somebody may be told
   told_granted : (attempt : AttemptId) (id next : ℕ) (some : List Ask) (grants : List Grant) (ended : List Closing) (o : Option AppRow)
@@ -485,23 +392,33 @@ module _ (t : Tables) (lawful : IsBook t.book) where
   granted_may : (attempt : AttemptId) → AllMayBeTold t.book.rows (grants_told t attempt)
   granted_may attempt = told_filter t.book.rows (λ grant. not (is_masters_in t.tree.apps grant.id)) (grants_to t.book.rows attempt) (granted_to_told attempt t.book.rows lawful.apart)
 
+  -- a message, where an allocation is answered so
+  message_containers : (message : Message) (reply : Reply) → IsToldSo message reply → BookFollowsTable t.book (after_message message reply t).book
+  message_containers message reply is = by message reply (after_message message reply t) is (message_outcome t message reply)
+    where
+      allocated : (attempt : AttemptId) (id : ℕ) (some : List Ask) (reply : Reply) → serves_allocation reply ≡ true → reply ≡ allocate_told t attempt id some (living_row attempt (row_of_app t.rows attempt.app)) → is_new_to id (spoken_by attempt (row_of_app t.rows attempt.app)) ≡ true
+          → BookFollowsTable t.book (acquired (containers_told reply) t.book)
+      allocated attempt id some (replies.Allocated told grants ended) so is new =
+          let same : grants ≡ grants_told t attempt = told_granted attempt id told some grants ended (living_row attempt (row_of_app t.rows attempt.app)) is new in
+          acquired_goes t.book lawful grants (subst (AllMayBeTold t.book.rows) (sym same) (granted_may attempt))
+      allocated attempt id some _ so is new = cc
+
+      by : (message : Message) (reply : Reply) (next : Tables) → IsToldSo message reply → MessageOutcome t message reply next → BookFollowsTable t.book next.book
+      by message reply next is (comes.allocates attempt id some release answer so new) = allocated attempt id some answer so is new
+      by message reply next is (comes.beats name id running done answer so new) = beaten_goes t.book lawful name (reported running) (launched_by answer)
+      by message reply next is _ = still
+
+  pub client_containers : (ask : ClientAsk) (reply : Reply) → BookFollowsTable t.book (after_client ask reply t).book
+  client_containers ask reply = message_containers (messages.Client [] ask) reply tt
+
   pub master_containers : (attempt : AttemptId) (ask : MasterAsk) (reply : Reply) → reply ≡ master_told t attempt ask → BookFollowsTable t.book (after_master attempt ask reply t).book
-  master_containers attempt masters.Register replies.MasterRegistered is = still
-  master_containers attempt (masters.Finish text) replies.Finishing is = by (goes_on (spoken_by attempt (row_of_app t.rows attempt.app))) refl
-    where
-      by : (b : Bool) → goes_on (spoken_by attempt (row_of_app t.rows attempt.app)) ≡ b → BookFollowsTable t.book (after_master attempt (masters.Finish text) replies.Finishing t).book
-      by true e = rw e still
-      by false e = rw e still
-  master_containers attempt (masters.Allocate id some release) (replies.Allocated next grants ended) is = by (is_new_to id (spoken_by attempt (row_of_app t.rows attempt.app))) refl
-    where
-      by : (b : Bool) → is_new_to id (spoken_by attempt (row_of_app t.rows attempt.app)) ≡ b
-          → BookFollowsTable t.book (after_master attempt (masters.Allocate id some release) (replies.Allocated next grants ended) t).book
-      by true e =
-          let told : grants ≡ grants_told t attempt = told_granted attempt id next some grants ended (living_row attempt (row_of_app t.rows attempt.app)) is e in
-          let may : AllMayBeTold t.book.rows grants = subst (AllMayBeTold t.book.rows) (sym told) (granted_may attempt) in
-          rw e (acquired_goes t.book lawful grants may)
-      by false e = rw e still
-  master_containers attempt _ _ is = still
+  master_containers attempt ask reply is = message_containers (messages.Master attempt ask) reply is
+
+  pub node_containers : (name : List ℕ) (ask : NodeAsk) (reply : Reply) → BookFollowsTable t.book (after_node name ask reply t).book
+  node_containers name ask reply = message_containers (messages.Node name ask) reply tt
+
+  pub clock_containers : (ask : ClockAsk) (reply : Reply) → BookFollowsTable t.book (after_clock ask reply t).book
+  clock_containers ask reply = message_containers (messages.Clock ask) reply tt
 
 -- a master is answered as the judge does
 pub served_containers : (h : History) (t : Tables) → LifeInvariant h t → IsBook t.book → (attempt : AttemptId) (ask : MasterAsk) (reply : Reply)

@@ -14,21 +14,21 @@ use Rattle.rm_invariant.specs.messages.Clients.{RefinesClientParts}
 use Rattle.rm_invariant.proofs.messages.Beating.{node_whole}
 use Rattle.rm_invariant.proofs.messages.Clients.{client_whole}
 use Rattle.rm_invariant.proofs.messages.Clock.{clock_whole}
-use Rattle.rm_invariant.proofs.messages.FittingMoves.{client_fits, clock_fits, master_fits, node_fits}
+use Rattle.rm_invariant.proofs.messages.FittingMoves.{message_fits}
 use Rattle.rm_invariant.proofs.messages.Life.{shows_life}
-use Rattle.rm_invariant.proofs.messages.MarkedMessages.{client_on_way, clock_on_way, master_on_way, node_on_way}
+use Rattle.rm_invariant.proofs.messages.MarkedMessages.{master_on_way, message_on_way}
 use Rattle.rm_invariant.proofs.messages.Masters.{master_whole}
 use Rattle.rm_invariant.proofs.messages.Showing.{client_shows}
 use Rattle.rm_invariant.specs.auxiliary.Invariant.{AuxInvariant}
 use Rattle.rm_invariant.proofs.auxiliary.Messages.{client_sides, clock_sides, master_sides, node_sides}
 use Rattle.rm_invariant.specs.bounds.InBounds.{InBounds}
-use Rattle.rm_invariant.proofs.bounds.Messages.{client_judged, clock_served, master_served, node_served}
+use Rattle.rm_invariant.proofs.bounds.Messages.{client_judged, message_ranged}
 use Rattle.rm_invariant.proofs.resting.Names.{step_apart}
 use Rattle.rm_invariant.specs.measure.Reports.{FewReported}
-use Rattle.rm_invariant.proofs.measure.Reported.{client_few, clock_few, master_few, node_few}
+use Rattle.rm_invariant.proofs.measure.Reported.{message_few}
 use Rattle.rm_invariant.specs.Preserves.{PreservesLife, KeepsFixed}
 use Rattle.rm_invariant.specs.Invariant.{LifeInvariant}
-use Rattle.rm_invariant.proofs.Staying.{client_stays, clock_stays, counted_stays, master_stays, node_stays}
+use Rattle.rm_invariant.proofs.Staying.{counted_stays, message_stays}
 
 -- what holds of an open life is nothing to how many messages it served
 counted_whole : (settings : Settings) (g : History) (next : Tables) (served : ℕ) → CoreInvariant settings g next → CoreInvariant settings g (record next { served = served })
@@ -96,30 +96,30 @@ module _ (h : History) (t : Tables) (r : LifeInvariant h t) where
         → PreservesLife h t (Served senders.Client (messages.Client user ask) reply) (counted (after_client ask reply t))
     client_runs user ask reply in_range is =
         let s = client_whole t.settings h t r.whole r.sides.retired user ask reply is in
-        served_runs _ (after_client ask reply t) s (client_stays t ask reply) (client_sides h t r.sides (t.served + 1) r.whole known user ask reply is s)
-        (client_fits t.settings h t r.fits user ask reply s) (client_judged t.settings h t r.ranged few user ask reply in_range is) (client_few ask reply t r.reported)
-        (client_on_way t.settings h t r.on_way user ask reply s)
+        served_runs _ (after_client ask reply t) s (message_stays t (messages.Client user ask) reply) (client_sides h t r.sides (t.served + 1) r.whole known user ask reply is s)
+        (message_fits t.settings h t r.fits life_shown.live (messages.Client user ask) reply tt _ s) (client_judged t.settings h t r.ranged few user ask reply in_range is) (message_few (messages.Client user ask) reply t in_range r.reported)
+        (message_on_way t.settings h t r.on_way senders.Client (messages.Client user ask) reply s (λ attempt id asks release same so new. cc))
 
     pub master_runs : (attempt : AttemptId) (ask : MasterAsk) (reply : Reply) → IsMasterAsk ask → reply ≡ master_reply t.settings (abstract_scene h t) attempt ask
         → PreservesLife h t (Served senders.Master (messages.Master attempt ask) reply) (counted (after_master attempt ask reply t))
     master_runs attempt ask reply in_range is =
         let s = master_whole t.settings h t r.whole refl r.sides.finishes attempt ask reply in_range is in
-        served_runs _ (after_master attempt ask reply t) s (master_stays t attempt ask reply) (master_sides h t r.sides (t.served + 1) r.whole life_shown.live attempt ask reply in_range is s)
-        (master_fits t.settings h t r.fits life_shown.live attempt ask reply is s) (master_served t r.ranged few attempt ask reply in_range) (master_few attempt ask reply t r.reported)
+        served_runs _ (after_master attempt ask reply t) s (message_stays t (messages.Master attempt ask) reply) (master_sides h t r.sides (t.served + 1) r.whole life_shown.live attempt ask reply in_range is s)
+        (message_fits t.settings h t r.fits life_shown.live (messages.Master attempt ask) reply is _ s) (message_ranged t r.ranged few (messages.Master attempt ask) reply in_range) (message_few (messages.Master attempt ask) reply t in_range r.reported)
         (master_on_way t.settings h t r.on_way r.whole refl r.sides.finishes attempt ask reply is s)
 
     pub node_runs : (name : List ℕ) (ask : NodeAsk) (reply : Reply) → IsText Node name → IsNodeAsk ask → reply ≡ node_reply (abstract_scene h t) name ask
         → PreservesLife h t (Served senders.Node (messages.Node name ask) reply) (counted (after_node name ask reply t))
     node_runs name ask reply named in_range is =
         let s = node_whole t.settings h t r.whole r.sides.offers name ask reply is in
-        served_runs _ (after_node name ask reply t) s (node_stays t name ask reply) (node_sides h t r.sides (t.served + 1) name ask reply s)
-        (node_fits t.settings h t r.fits name ask reply s) (node_served t r.ranged few name ask reply named in_range) (node_few name ask reply t in_range r.reported)
-        (node_on_way t.settings h t r.on_way name ask reply s)
+        served_runs _ (after_node name ask reply t) s (message_stays t (messages.Node name ask) reply) (node_sides h t r.sides (t.served + 1) name ask reply s)
+        (message_fits t.settings h t r.fits life_shown.live (messages.Node name ask) reply tt _ s) (message_ranged t r.ranged few (messages.Node name ask) reply (named, in_range)) (message_few (messages.Node name ask) reply t (named, in_range) r.reported)
+        (message_on_way t.settings h t r.on_way senders.Node (messages.Node name ask) reply s (λ attempt id asks release same so new. cc))
 
     pub clock_runs : (ask : ClockAsk) (reply : Reply) → IsClockAsk ask → reply ≡ clock_reply (abstract_scene h t) ask
         → PreservesLife h t (Served senders.Clock (messages.Clock ask) reply) (counted (after_clock ask reply t))
     clock_runs ask reply in_range is =
         let s = clock_whole t.settings h t r.whole ask reply is in
-        served_runs _ (after_clock ask reply t) s (clock_stays t ask reply) (clock_sides h t r.sides (t.served + 1) ask reply s)
-        (clock_fits t.settings h t r.fits ask reply s) (clock_served t r.ranged few ask reply in_range) (clock_few ask reply t r.reported)
-        (clock_on_way t.settings h t r.on_way ask reply s)
+        served_runs _ (after_clock ask reply t) s (message_stays t (messages.Clock ask) reply) (clock_sides h t r.sides (t.served + 1) ask reply s)
+        (message_fits t.settings h t r.fits life_shown.live (messages.Clock ask) reply tt _ s) (message_ranged t r.ranged few (messages.Clock ask) reply in_range) (message_few (messages.Clock ask) reply t in_range r.reported)
+        (message_on_way t.settings h t r.on_way senders.Clock (messages.Clock ask) reply s (λ attempt id asks release same so new. cc))

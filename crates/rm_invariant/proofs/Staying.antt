@@ -1,21 +1,14 @@
 -- What each move of an open life leaves as it is.
-use Rattle.rm_invariant.proofs.Common.{◌≡◌, ℕ, ◌&&◌, ◌||◌, List, [], ◌∷◌, ◌++◌, Bool, true, false, drop, filter, map, Option, None, Some, refl, sym, ◌∙◌, list_any, list_any-append, Cause, Entry, AttemptId, ContainerId, ClientAsk, ClockAsk, MasterAsk, NodeAsk, Op, Reply, AttemptState, once, is_epoch_op, MainEvent, SchedEvent, NodeRow, AppRow, Current, Tables, absorbed_by, absorbed_if, main_popped, main_worked, sched_popped, sched_worked, kept, ended_by, is_masters_in, is_waiting_row, node_row, grants_on, updated_by, waits_for_master, row_of, is_on, is_released, queued_at, queued_by, queued_with, sched_step, after_client, taken_by, wished_by, after_master, is_new_to, goes_on, spoken_by, after_clock, after_node, is_next_beat, registered_by}
-use Rattle.std.proofs.Common.{◌≢◌, ◌==◌, nat_lt}
-use Rattle.rm_types.specs.declared.containers.Cause.TheVariants as causes
-use Rattle.rm_types.specs.declared.messages.ClientAsk.TheVariants as clients
-use Rattle.rm_types.specs.declared.messages.ClockAsk.TheVariants as clocks
-use Rattle.rm_types.specs.declared.messages.MasterAsk.TheVariants as masters
-use Rattle.rm_types.specs.declared.messages.NodeAsk.TheVariants as asks
+use Rattle.rm_invariant.proofs.Common.{◌≡◌, ℕ, ◌||◌, List, [], ◌∷◌, ◌++◌, Bool, true, false, drop, map, refl, sym, ◌∙◌, list_any, list_any-append, Entry, ContainerId, Op, Reply, is_epoch_op, MainEvent, SchedEvent, Tables, main_popped, main_worked, sched_popped, sched_worked, kept, sched_step, ap, Message}
 use Rattle.rm_types.specs.declared.operations.Op.TheVariants as ops
-use Rattle.rm_types.specs.declared.replies.Reply.TheVariants as replies
 use Rattle.rm_types.proofs.TestLemmas.{never_nil}
-use Rattle.rm_states.specs.declared.attempt.states.AttemptState.TheVariants as attempts
-use Rattle.rm_book.specs.Books.{book_row as book_row_of}
 use Rattle.rm_tables.specs.declared.events.MainEvent.TheVariants as mains
-use Rattle.rm_tables.specs.declared.events.SchedEvent.TheVariants as scheds
-use Rattle.rm_invariant.specs.events.Outcomes.{Outcome, accepts, adds, delays, ends, ends_one, follows, idles, issues, kills, loses, orders, removes, requeues, saves}
+use Rattle.rm_invariant.specs.events.Outcomes.{Outcome, ends, ends_one, idles, issues, kills, orders, removes, saves}
 use Rattle.rm_invariant.specs.Preserves.{KeepsFixed}
 use Rattle.rm_invariant.specs.Invariant.{NoneOpens, is_epoch_start}
+use Rattle.rm_invariant.proofs.events.SchedShapes.{SchedShape, sched_shape}
+use Rattle.rm_invariant.proofs.messages.MessageShapes.{MessageShape, message_shape}
+use Rattle.rm_invariant.specs.messages.Outcomes.{after_message}
 
 -- none passes of two lists, of a list without its first, and of what is made so
 pub none_more : {X : Type 0} (p : X → Bool) (xs ys : List X) → list_any p xs ≡ false → list_any p ys ≡ false → list_any p (xs ++ ys) ≡ false
@@ -69,22 +62,16 @@ module _ (t : Tables) where
   outcome_stays done idles = record { settings = refl; alloc = refl; alive = refl; epoch = refl; blown = refl; calm = λ c. c; handed = λ before. before; begun = nothing_begins }
   outcome_stays done (saves id row submission rest found waits front) =
       record { settings = refl; alloc = refl; alive = refl; epoch = refl; blown = refl; calm = λ c. c; handed = λ before is. never_nil t.awaiting (ops.App id submission); begun = λ b. record { main = b.main; awaiting = op_begins (ops.App id submission) refl b } }
-  outcome_stays done (adds id row behind found st at_front) = record { settings = refl; alloc = refl; alive = refl; epoch = refl; blown = refl; calm = λ c. c; handed = λ before. before; begun = λ b. record { main = b.main; awaiting = b.awaiting } }
-  outcome_stays done (accepts id row found st) = record { settings = refl; alloc = refl; alive = refl; epoch = refl; blown = refl; calm = λ c. c; handed = λ before. before; begun = λ b. record { main = b.main; awaiting = b.awaiting } }
   outcome_stays done (ends id row how text found stopped is) =
       record { settings = refl; alloc = refl; alive = refl; epoch = refl; blown = refl; calm = λ c. c; handed = λ before is. never_nil t.awaiting (ops.AppEnd id how text); begun = λ b. record { main = b.main; awaiting = op_begins (ops.AppEnd id how text) refl b } }
   outcome_stays done (kills id row current at_ number alive going) =
       record { settings = refl; alloc = refl; alive = refl; epoch = refl; blown = refl; calm = λ c. c; handed = λ before is. never_nil t.awaiting _; begun = λ b. record { main = b.main; awaiting = op_begins _ refl b } }
-  outcome_stays done (delays id row current at_ waits going) = record { settings = refl; alloc = refl; alive = refl; epoch = refl; blown = refl; calm = λ c. c; handed = λ before. before; begun = λ b. record { main = b.main; awaiting = b.awaiting } }
   outcome_stays done (issues container node row current at_ st number mine place) =
       record { settings = refl; alloc = refl; alive = refl; epoch = refl; blown = refl; calm = λ c. c; handed = λ before is. never_nil t.awaiting _; begun = λ b. record { main = b.main; awaiting = op_begins _ refl b } }
-  outcome_stays done (requeues container row current behind at_ st number mine place at_front) = record { settings = refl; alloc = refl; alive = refl; epoch = refl; blown = refl; calm = λ c. c; handed = λ before. before; begun = λ b. record { main = b.main; awaiting = b.awaiting } }
   outcome_stays done (orders id container node row current at_ number alive master place) =
       record { settings = refl; alloc = refl; alive = refl; epoch = refl; blown = refl; calm = λ c. c; handed = λ before. before; begun = λ b. record { main = b.main; awaiting = b.awaiting } }
   outcome_stays done (ends_one id row current how text at_ number alive is) =
       record { settings = refl; alloc = refl; alive = refl; epoch = refl; blown = refl; calm = λ c. c; handed = λ before is. never_nil t.awaiting (ops.AttemptEnd id how text); begun = λ b. record { main = b.main; awaiting = op_begins (ops.AttemptEnd id how text) refl b } }
-  outcome_stays done (loses container row current at_ st number mine) = record { settings = refl; alloc = refl; alive = refl; epoch = refl; blown = refl; calm = λ c. c; handed = λ before. before; begun = λ b. record { main = b.main; awaiting = b.awaiting } }
-  outcome_stays done (follows id row current at_ going st none) = record { settings = refl; alloc = refl; alive = refl; epoch = refl; blown = refl; calm = λ c. c; handed = λ before. before; begun = λ b. record { main = b.main; awaiting = b.awaiting } }
   outcome_stays done (removes id more first many) =
       record {
         settings = refl;
@@ -96,6 +83,7 @@ module _ (t : Tables) where
         handed = λ before is. never_nil t.awaiting (ops.Remove id);
         begun = λ b. record { main = events_begin (mains.Retire ∷ []) refl b; awaiting = op_begins (ops.Remove id) refl b };
       }
+  outcome_stays done _ = record { settings = refl; alloc = refl; alive = refl; epoch = refl; blown = refl; calm = λ c. c; handed = λ before. before; begun = λ b. record { main = b.main; awaiting = b.awaiting } }
 
   pub main_stays : (done : Entry × Tables) → Outcome t done → KeepsFixed t (main_worked done).1
   main_stays done outcome = main_popped_stays t done.1 (outcome_stays done outcome)
@@ -103,19 +91,7 @@ module _ (t : Tables) where
   -- it gives no id and serves no message
   pub main_numbers : (done : Entry × Tables) → Outcome t done → ((main_worked done).1.given ≡ t.given) × ((main_worked done).1.served ≡ t.served)
   main_numbers done idles = (refl, refl)
-  main_numbers done (saves id row submission rest found waits front) = (refl, refl)
-  main_numbers done (adds id row behind found st at_front) = (refl, refl)
-  main_numbers done (accepts id row found st) = (refl, refl)
-  main_numbers done (ends id row how text found stopped is) = (refl, refl)
-  main_numbers done (kills id row current at_ number alive going) = (refl, refl)
-  main_numbers done (delays id row current at_ waits going) = (refl, refl)
-  main_numbers done (issues container node row current at_ st number mine place) = (refl, refl)
-  main_numbers done (requeues container row current behind at_ st number mine place at_front) = (refl, refl)
-  main_numbers done (orders id container node row current at_ number alive master place) = (refl, refl)
-  main_numbers done (ends_one id row current how text at_ number alive is) = (refl, refl)
-  main_numbers done (loses container row current at_ st number mine) = (refl, refl)
-  main_numbers done (follows id row current at_ going st none) = (refl, refl)
-  main_numbers done (removes id more first many) = (refl, refl)
+  main_numbers done _ = (refl, refl)
 
 -- A STEP OF THE SCHEDULER
 
@@ -141,64 +117,17 @@ module _ (t : Tables) where
         begun = λ b. let one = events_begin t events none b in let other = b.awaiting in record { main = rw main one; awaiting = rw awaiting other };
       }
 
-  no_more : KeepsFixed t t
-  no_more = record { settings = refl; alloc = refl; alive = refl; epoch = refl; blown = refl; calm = λ c. c; handed = λ before. before; begun = λ b. b }
-
-  quiet_stays : SchedStays t t
-  quiet_stays = record { stays = no_more; given = refl; served = refl }
-
-  ended_stays : (cause : Cause) (list : List ContainerId) → SchedStays t (ended_by cause list t).1
-  ended_stays cause [] = quiet_stays
-  ended_stays cause (id ∷ ids) =
-      record { stays = posting _ (map (λ one. mains.MasterLost one) (filter (is_masters_in t.tree.apps) (id ∷ ids))) (none_made is_epoch_start (λ one. mains.MasterLost one) (λ one. refl) (filter (is_masters_in t.tree.apps) (id ∷ ids))) refl refl refl refl refl refl refl refl; given = refl; served = refl }
-
-  queued_stays : (o : Option AppRow) (id : AttemptId) → SchedStays t (queued_by o id t).1
-  queued_stays None id = quiet_stays
-  queued_stays (Some row) id = with_current row.current
-    where
-      at_state : (s : AttemptState) (b : Bool) → SchedStays t (queued_at s b id t).1
-      at_state attempts.Scheduled true =
-          record { stays = record { settings = refl; alloc = refl; alive = refl; epoch = refl; blown = refl; calm = λ c. c; handed = λ before. before; begun = λ b. record { main = b.main; awaiting = b.awaiting } }; given = refl; served = refl }
-      at_state attempts.Scheduled false = quiet_stays
-      at_state _ b = quiet_stays
-
-      with_current : (o : Option Current) → SchedStays t (queued_with o id t).1
-      with_current None = quiet_stays
-      with_current (Some current) = at_state current.state (current.number == id.number)
-
-  absorbed_stays : (o : Option NodeRow) (name : List ℕ) (turn : ℕ) (ended : List ContainerId) → SchedStays t (absorbed_by o name turn ended t).1
-  absorbed_stays None name turn ended = quiet_stays
-  absorbed_stays (Some row) name turn ended = by (is_waiting_row row.state && (row.turn == turn))
-    where
-      by : (b : Bool) → SchedStays t (absorbed_if b name row ended t).1
-      by true =
-          record { stays = posting _ (map (λ one. mains.MasterLost one) (filter (is_masters_in t.tree.apps) ended)) (none_made is_epoch_start (λ one. mains.MasterLost one) (λ one. refl) (filter (is_masters_in t.tree.apps) ended)) refl refl refl refl refl refl refl refl; given = refl; served = refl }
-      by false = quiet_stays
-
-  updated_stays : (o : Option NodeRow) (name : List ℕ) → SchedStays t (updated_by o name t).1
-  updated_stays None name = quiet_stays
-  updated_stays (Some row) name =
-      record {
-        stays =
-            posting _ (map (λ grant. mains.MasterGranted grant.id) (filter (λ grant. waits_for_master (row_of t.rows grant.id.attempt.app)) (grants_on name row t)))
-            (none_made is_epoch_start (λ grant. mains.MasterGranted grant.id) (λ one. refl) (filter (λ grant. waits_for_master (row_of t.rows grant.id.attempt.app)) (grants_on name row t))) refl refl refl refl refl refl refl refl;
-        given = refl;
-        served = refl;
-      }
-
-  step_stays : (e : SchedEvent) (list : List ContainerId) → SchedStays t (sched_step e list t).1
-  step_stays (scheds.AppAdded id) list = record { stays = posting _ (mains.AppAccepted id ∷ []) refl refl refl refl refl refl refl refl refl; given = refl; served = refl }
-  step_stays (scheds.AttemptRecovered id) list = quiet_stays
-  step_stays (scheds.AttemptAdded id) list = queued_stays (row_of t.rows id.app) id
-  step_stays (scheds.AttemptRemoved id) list = ended_stays causes.Attempt list
-  step_stays (scheds.Release attempt released) list = ended_stays causes.Released (once (filter (is_released attempt t) released))
-  step_stays (scheds.NodeAdded node turn) list = absorbed_stays (node_row t.nodes node) node turn list
-  step_stays (scheds.NodeDone node done) list = ended_stays causes.Done (once (filter (λ id. is_on node (book_row_of t.book id)) done))
-  step_stays (scheds.NodeUpdate node) list = updated_stays (node_row t.nodes node) node
-  step_stays (scheds.NodeLost node) list = ended_stays causes.Node list
-
   pub sched_stays : (e : SchedEvent) (list : List ContainerId) → SchedStays t (sched_worked (sched_step e list t)).1
-  sched_stays e list = let s = step_stays e list in record { stays = sched_popped_stays t (sched_step e list t).1 s.stays; given = s.given; served = s.served }
+  sched_stays e list = record { stays = sched_popped_stays t next (posting next shape.more shape.quiet.begins shape.main (by (λ one. one.awaiting)) (by (λ one. one.handed)) (by (λ one. one.settings)) (by (λ one. one.alloc)) (by (λ one. one.alive)) (by (λ one. one.epoch)) (by (λ one. one.blown))); given = by (λ one. one.given); served = by (λ one. one.served) }
+    where
+      next : Tables
+      next = (sched_step e list t).1
+
+      shape : SchedShape t (sched_step e list t)
+      shape = sched_shape t list e
+
+      by : {X : Type 0} (part : Tables → X) → part next ≡ part (record t { rows = next.rows; nodes = next.nodes; book = next.book; main = next.main; asks = next.asks })
+      by part = ap part shape.rest
 
   -- WHAT IS KEPT
 
@@ -250,71 +179,15 @@ module _ (t : Tables) where
   counted_stays next served s =
       record { settings = s.settings; alloc = s.alloc; alive = s.alive; epoch = s.epoch; blown = s.blown; calm = s.calm; handed = s.handed; begun = λ b. let after = s.begun b in record { main = after.main; awaiting = after.awaiting } }
 
-  -- neither queue that may begin something changes
-  same_stays : (next : Tables) → next.main ≡ t.main → next.awaiting ≡ t.awaiting → next.handed ≡ t.handed → next.settings ≡ t.settings → next.alloc ≡ t.alloc → next.alive ≡ t.alive → next.epoch ≡ t.epoch → next.blown ≡ t.blown → KeepsFixed t next
-  same_stays next main awaiting handed settings alloc alive epoch blown =
-      record {
-        settings = settings;
-        alloc = alloc;
-        alive = alive;
-        epoch = epoch;
-        blown = blown;
-        calm = λ c b. handed ∙ c (sym blown ∙ b);
-        handed = rw (handed, awaiting) (λ before. before);
-        begun = λ b. let one = b.main in let other = b.awaiting in record { main = rw main one; awaiting = rw awaiting other };
-      }
-
-  pub client_stays : (ask : ClientAsk) (reply : Reply) → KeepsFixed t (after_client ask reply t)
-  client_stays clients.New (replies.New id) = same_stays _ refl refl refl refl refl refl refl refl
-  client_stays (clients.Submit id submission) replies.Submitted = by (row_of t.rows id)
+  pub message_stays : (message : Message) (reply : Reply) → KeepsFixed t (after_message message reply t)
+  message_stays message reply = posting next shape.more shape.begins shape.main (by (λ one. one.awaiting)) (by (λ one. one.handed)) (by (λ one. one.settings)) (by (λ one. one.alloc)) (by (λ one. one.alive)) (by (λ one. one.epoch)) (by (λ one. one.blown))
     where
-      by : (o : Option AppRow) → KeepsFixed t (taken_by o id submission t)
-      by None = posting _ (mains.AppStart id ∷ []) refl refl refl refl refl refl refl refl refl
-      by (Some row) = no_more
-  client_stays (clients.Kill id) replies.Killing = by (row_of t.rows id)
-    where
-      wishes : (row : AppRow) (b : Bool) → row.wish ≡ b → KeepsFixed t (wished_by (Some row) id t)
-      wishes row true e = rw e no_more
-      wishes row false e = rw e (posting _ (mains.AppKill id ∷ []) refl refl refl refl refl refl refl refl refl)
+      next : Tables
+      next = after_message message reply t
 
-      by : (o : Option AppRow) → KeepsFixed t (wished_by o id t)
-      by None = no_more
-      by (Some row) = wishes row row.wish refl
-  client_stays _ _ = no_more
+      shape : MessageShape t message next
+      shape = message_shape t message reply
 
-  pub master_stays : (attempt : AttemptId) (ask : MasterAsk) (reply : Reply) → KeepsFixed t (after_master attempt ask reply t)
-  master_stays attempt masters.Register replies.MasterRegistered = same_stays _ refl refl refl refl refl refl refl refl
-  master_stays attempt (masters.Finish text) replies.Finishing = by (goes_on (spoken_by attempt (row_of t.rows attempt.app))) refl
-    where
-      by : (b : Bool) → goes_on (spoken_by attempt (row_of t.rows attempt.app)) ≡ b → KeepsFixed t (after_master attempt (masters.Finish text) replies.Finishing t)
-      by true e = rw e (posting _ (mains.AttemptFinish attempt ∷ []) refl refl refl refl refl refl refl refl refl)
-      by false e = rw e no_more
-  master_stays attempt (masters.Allocate id some release) (replies.Allocated next grants ended) = by (is_new_to id (spoken_by attempt (row_of t.rows attempt.app))) refl
-    where
-      by : (b : Bool) → is_new_to id (spoken_by attempt (row_of t.rows attempt.app)) ≡ b → KeepsFixed t (after_master attempt (masters.Allocate id some release) (replies.Allocated next grants ended) t)
-      by true e = rw e (same_stays _ refl refl refl refl refl refl refl refl)
-      by false e = rw e no_more
-  master_stays attempt _ _ = no_more
-
-  pub node_stays : (name : List ℕ) (ask : NodeAsk) (reply : Reply) → KeepsFixed t (after_node name ask reply t)
-  node_stays name (asks.Register turn capability running) reply = by (node_row t.nodes name)
-    where
-      later : (row : NodeRow) (b : Bool) → nat_lt row.turn turn ≡ b → KeepsFixed t (registered_by (Some row) name turn capability running reply t)
-      later row true e = rw e (same_stays _ refl refl refl refl refl refl refl refl)
-      later row false e = rw e no_more
-
-      by : (o : Option NodeRow) → KeepsFixed t (registered_by o name turn capability running reply t)
-      by None = same_stays _ refl refl refl refl refl refl refl refl
-      by (Some row) = later row (nat_lt row.turn turn) refl
-  node_stays name (asks.Beat id running done) (replies.Beat next launched clean) = by (is_next_beat id (node_row t.nodes name)) refl
-    where
-      by : (b : Bool) → is_next_beat id (node_row t.nodes name) ≡ b → KeepsFixed t (after_node name (asks.Beat id running done) (replies.Beat next launched clean) t)
-      by true e = rw e (same_stays _ refl refl refl refl refl refl refl refl)
-      by false e = rw e no_more
-  node_stays name (asks.Beat id running done) _ = no_more
-
-  pub clock_stays : (ask : ClockAsk) (reply : Reply) → KeepsFixed t (after_clock ask reply t)
-  clock_stays (clocks.ExpireNode name) replies.Ok = same_stays _ refl refl refl refl refl refl refl refl
-  clock_stays (clocks.Tick time) replies.Ok = same_stays _ refl refl refl refl refl refl refl refl
-  clock_stays (clocks.ExpireMaster attempt) replies.Ok = posting _ (mains.AttemptExpired attempt ∷ []) refl refl refl refl refl refl refl refl refl
-  clock_stays _ _ = no_more
+      by : {X : Type 0} (part : Tables → X)
+          → part next ≡ part (record t { rows = next.rows; nodes = next.nodes; book = next.book; asks = next.asks; going = next.going; given = next.given; clock = next.clock; main = next.main; sched = next.sched })
+      by part = ap part shape.rest

@@ -1,15 +1,11 @@
 -- Each move brings the state of an application, and that of its current attempt, along a row of its table, or leaves it.
-use Rattle.rm_invariant.proofs.Common.{◌≡◌, ◌⊎◌, inl, inr, ℕ, ◌+◌, length, arith, List, [], ◌∷◌, ◌++◌, Bool, true, false, Option, None, Some, fold, refl, sym, ◌∙◌, ap, subst, Closing, Grant, Entry, AppId, AttemptId, ContainerId, How, Op, is_app, ClientAsk, ClockAsk, MasterAsk, NodeAsk, Reply, dialogue_begun, registered_row, said_row, told_row, with_answer, with_text, without_closings, after_client, submitted_row, taken_by, wished_by, after_master, is_new_to, goes_on, spoken_by, after_clock, after_node, Settings, same_app, attempts_in, found_in, next_in, AppState, next_app_state, AttemptState, AttemptChange, RowChange, MainEvent, SchedEvent, AppRow, Current, Tables, main_worked, sched_worked, after_failure, attempt_after, changed, current_after, granted, granted_at, kept, closed_in, main_step, rows_after_grant, row_of, with_row, sched_step, closings_for, History}
+use Rattle.rm_invariant.proofs.Common.{◌≡◌, ◌⊎◌, inl, inr, ℕ, ◌+◌, length, arith, List, [], ◌∷◌, ◌++◌, Bool, true, false, Option, None, Some, fold, refl, sym, ◌∙◌, ap, subst, Closing, Grant, Entry, AppId, AttemptId, ContainerId, How, Op, is_app, ClientAsk, ClockAsk, MasterAsk, NodeAsk, Reply, dialogue_begun, registered_row, said_row, told_row, with_answer, with_text, without_closings, after_client, submitted_row, after_master, after_clock, after_node, Settings, same_app, attempts_in, found_in, next_in, AppState, next_app_state, AttemptState, AttemptChange, RowChange, MainEvent, SchedEvent, AppRow, Current, Tables, main_worked, sched_worked, after_failure, attempt_after, changed, current_after, granted, granted_at, kept, closed_in, main_step, rows_after_grant, row_of, with_row, sched_step, closings_for, History, Message}
 use Rattle.std.proofs.Common.{option_map}
 use Rattle.rm_types.specs.declared.operations.How.TheVariants as ways
 use Rattle.rm_types.specs.declared.operations.Op.TheVariants as ops
-use Rattle.rm_types.specs.declared.messages.ClientAsk.TheVariants as clients
-use Rattle.rm_types.specs.declared.messages.MasterAsk.TheVariants as masters
-use Rattle.rm_types.specs.declared.replies.Reply.TheVariants as replies
-use Rattle.rm_invariant.proofs.messages.Rows.{clock_rows, node_rows}
 use Rattle.rm_states.specs.declared.app.states.AppState.TheVariants as apps
 use Rattle.rm_tables.specs.declared.events.MainEvent.TheVariants as mains
-use Rattle.rm_invariant.specs.events.Outcomes.{Outcome, accepts, adds, delays, ends, ends_one, follows, idles, issues, kills, loses, orders, removes, requeues, saves}
+use Rattle.rm_invariant.specs.events.Outcomes.{Outcome, accepts, delays, ends, ends_one, follows, issues, kills, loses, requeues, saves}
 use Rattle.rm_invariant.proofs.events.Outcomes.{main_outcome}
 use Rattle.rm_invariant.specs.apps.Invariant.{ActiveInvariant, CurrentInvariant, RowInvariant, StateInvariant, is_active}
 use Rattle.rm_invariant.specs.Step.{AppsInvariant}
@@ -32,8 +28,12 @@ use Rattle.rm_invariant.specs.apps.View.{changed_if, gone_if}
 use Rattle.rm_invariant.proofs.apps.Found.{row_changed}
 use Rattle.rm_invariant.proofs.apps.Removing.{row_gone}
 use Rattle.rm_invariant.proofs.events.Told.{rows_told, telling_more}
-use Rattle.rm_invariant.proofs.messages.Shapes.{RowsAfter, SchedShape, sched_shape}
+use Rattle.rm_invariant.proofs.events.SchedShapes.{RowsAfter, sched_shape}
 use Rattle.rm_invariant.specs.Transitions.{AppFollowsTable, AttemptFollowsTable, CurrentFollowsTable, RowFollowsTables, RowsFollowTables}
+use Rattle.rm_types.specs.declared.messages.Message.TheVariants as messages
+use Rattle.rm_invariant.specs.messages.Outcomes.{MessageOutcome, after_message}
+use Rattle.rm_invariant.specs.messages.Outcomes as comes
+use Rattle.rm_invariant.proofs.messages.Outcomes.{message_outcome}
 
 -- ONE ROW
 
@@ -60,20 +60,13 @@ failure_goes ways.Killed s = inl refl
 state_goes : (change : RowChange) (s : AppState) → AppFollowsTable s (changed_state change s)
 state_goes of_app.Issue s = app_moves app_events.Start s
 state_goes of_app.Keep s = app_moves app_events.Kept s
-state_goes of_app.Wish s = inl refl
 state_goes of_app.Kill s = app_moves app_events.Kill s
 state_goes (of_app.Schedule number) s = app_moves app_events.Accept s
 state_goes of_app.Register s = app_moves app_events.Register s
 state_goes of_app.End s = app_moves app_events.End s
 state_goes (of_app.KeepEnd how) s = app_moves (app_events.EndKept how) s
 state_goes (of_app.OfAttempt (of_attempt.KeepEnd how)) s = failure_goes how s
-state_goes (of_app.OfAttempt (of_attempt.Grant container)) s = inl refl
-state_goes (of_app.OfAttempt of_attempt.Requeue) s = inl refl
-state_goes (of_app.OfAttempt of_attempt.Issue) s = inl refl
-state_goes (of_app.OfAttempt of_attempt.Lose) s = inl refl
-state_goes (of_app.OfAttempt of_attempt.Keep) s = inl refl
-state_goes (of_app.OfAttempt of_attempt.Finish) s = inl refl
-state_goes (of_app.OfAttempt (of_attempt.End how)) s = inl refl
+state_goes _ s = inl refl
 
 -- what a grant makes of an attempt
 pub record Granting (before now : Current) : Type 0 where
@@ -85,14 +78,7 @@ granting container current = by current.state refl
   where
     by : (s : AttemptState) → current.state ≡ s → Granting current (granted_at s container current)
     by attempts.Scheduled is = record { number = refl; state = inr (is, refl) }
-    by attempts.Granted is = record { number = refl; state = inl refl }
-    by attempts.Saving is = record { number = refl; state = inl refl }
-    by attempts.Live is = record { number = refl; state = inl refl }
-    by attempts.Registered is = record { number = refl; state = inl refl }
-    by attempts.Finishing is = record { number = refl; state = inl refl }
-    by attempts.Ending is = record { number = refl; state = inl refl }
-    by attempts.Ended is = record { number = refl; state = inl refl }
-    by attempts.Dropped is = record { number = refl; state = inl refl }
+    by _ is = record { number = refl; state = inl refl }
 
 granting_goes : (before now : Current) → Granting before now → CurrentFollowsTable (Some before) (Some now)
 granting_goes before now g = inl (g.number, by g.state)
@@ -118,14 +104,6 @@ schedules_none _ = true
 
 current_goes : (change : RowChange) → schedules_none change ≡ true → (o : Option Current) → CurrentFollowsTable o (current_after change o)
 current_goes (of_app.Schedule number) e o = cc
-current_goes of_app.Issue e None = refl
-current_goes of_app.Keep e None = refl
-current_goes of_app.Wish e None = refl
-current_goes of_app.Kill e None = refl
-current_goes of_app.Register e None = refl
-current_goes of_app.End e None = refl
-current_goes (of_app.KeepEnd how) e None = refl
-current_goes (of_app.OfAttempt change) e None = refl
 current_goes of_app.Issue e (Some current) = inl (refl, inl refl)
 current_goes of_app.Keep e (Some current) = inl (refl, inl refl)
 current_goes of_app.Wish e (Some current) = inl (refl, inl refl)
@@ -134,6 +112,7 @@ current_goes of_app.Register e (Some current) = inl (refl, attempt_moves attempt
 current_goes of_app.End e (Some current) = inl (refl, attempt_moves attempt_events.Drop current.state)
 current_goes (of_app.KeepEnd how) e (Some current) = inl (refl, inl refl)
 current_goes (of_app.OfAttempt change) e (Some current) = attempt_goes change current
+current_goes _ e None = refl
 
 -- whatever happens to an application but that an attempt is scheduled
 pub changed_goes : (change : RowChange) → schedules_none change ≡ true → (row : AppRow) → RowFollowsTables row (changed change row)
@@ -289,9 +268,7 @@ module _ (settings : Settings) (h : History) (t : Tables) (k : AppsInvariant set
       own.1
 
   outcome_goes : (done : Entry × Tables) → Outcome t done → GoesOn done
-  outcome_goes done idles = rows_stay t.rows
   outcome_goes done (saves id row submission rest found waits front) = any_goes of_app.Issue refl id
-  outcome_goes done (adds id row behind found st at_front) = rows_stay t.rows
   outcome_goes done (accepts id row found st) =
       let alone = none_submitted id row found st in
       at_goes (changed (of_app.Schedule 1)) id t.rows row found (scheduled_goes 1 row None alone tt)
@@ -300,13 +277,12 @@ module _ (settings : Settings) (h : History) (t : Tables) (k : AppsInvariant set
   outcome_goes done (delays id row current at_ waits going) = any_goes of_app.Kill refl id
   outcome_goes done (issues container node row current at_ st number mine place) = any_goes (of_app.OfAttempt of_attempt.Issue) refl container.attempt.app
   outcome_goes done (requeues container row current behind at_ st number mine place at_front) = any_goes (of_app.OfAttempt of_attempt.Requeue) refl container.attempt.app
-  outcome_goes done (orders id container node row current at_ number alive master place) = rows_stay t.rows
   outcome_goes done (ends_one id row current how text at_ number alive is) = any_goes (of_app.OfAttempt (of_attempt.End how)) refl id.app
   outcome_goes done (loses container row current at_ st number mine) = any_goes (of_app.OfAttempt of_attempt.Lose) refl container.attempt.app
   outcome_goes done (follows id row current at_ going st decided) =
       at_goes (changed (of_app.Schedule (next_in t id).number)) id t.rows row at_.found
       (scheduled_goes (next_in t id).number row (Some current) at_.is (st, ap (λ (n : ℕ). n + 1) (sym (last_ended id row current at_.found at_.is going st))))
-  outcome_goes done (removes id more first many) = rows_stay t.rows
+  outcome_goes done _ = rows_stay t.rows
 
 -- the first event of the main queue, in whichever phase
 pub main_goes : (h : History) (t : Tables) (e : MainEvent) (rest : List MainEvent) → LifePhase h t → t.main ≡ e ∷ rest → RowsFollowTables t.rows (main_worked (main_step e t)).1.rows
@@ -320,29 +296,16 @@ main_goes h t e rest (running r) front = by e front
   where
     by : (e : MainEvent) → t.main ≡ e ∷ rest → RowsFollowTables t.rows (main_worked (main_step e t)).1.rows
     by mains.EpochStart front = rows_stay t.rows
-    by mains.Retire front = outcome_goes t.settings h t r.whole.keeps (main_step mains.Retire t) (main_outcome t mains.Retire rest front (λ x. cc))
-    by (mains.AppStart id) front = outcome_goes t.settings h t r.whole.keeps (main_step (mains.AppStart id) t) (main_outcome t (mains.AppStart id) rest front (λ x. cc))
-    by (mains.AppSaved id) front = outcome_goes t.settings h t r.whole.keeps (main_step (mains.AppSaved id) t) (main_outcome t (mains.AppSaved id) rest front (λ x. cc))
-    by (mains.AppAccepted id) front = outcome_goes t.settings h t r.whole.keeps (main_step (mains.AppAccepted id) t) (main_outcome t (mains.AppAccepted id) rest front (λ x. cc))
-    by (mains.AppKill id) front = outcome_goes t.settings h t r.whole.keeps (main_step (mains.AppKill id) t) (main_outcome t (mains.AppKill id) rest front (λ x. cc))
-    by (mains.MasterGranted container) front = outcome_goes t.settings h t r.whole.keeps (main_step (mains.MasterGranted container) t) (main_outcome t (mains.MasterGranted container) rest front (λ x. cc))
-    by (mains.AttemptSaved id) front = outcome_goes t.settings h t r.whole.keeps (main_step (mains.AttemptSaved id) t) (main_outcome t (mains.AttemptSaved id) rest front (λ x. cc))
-    by (mains.MasterLost container) front = outcome_goes t.settings h t r.whole.keeps (main_step (mains.MasterLost container) t) (main_outcome t (mains.MasterLost container) rest front (λ x. cc))
-    by (mains.AttemptExpired id) front = outcome_goes t.settings h t r.whole.keeps (main_step (mains.AttemptExpired id) t) (main_outcome t (mains.AttemptExpired id) rest front (λ x. cc))
-    by (mains.AttemptFinish id) front = outcome_goes t.settings h t r.whole.keeps (main_step (mains.AttemptFinish id) t) (main_outcome t (mains.AttemptFinish id) rest front (λ x. cc))
-    by (mains.AttemptDone id) front = outcome_goes t.settings h t r.whole.keeps (main_step (mains.AttemptDone id) t) (main_outcome t (mains.AttemptDone id) rest front (λ x. cc))
+    by e front = outcome_goes t.settings h t r.whole.keeps (main_step e t) (main_outcome t e rest front (λ x. cc))
 
 -- of the scheduler's
 pub sched_goes : (t : Tables) (e : SchedEvent) (list : List ContainerId) → RowsFollowTables t.rows (sched_worked (sched_step e list t)).1.rows
-sched_goes t e list = by shape.rows
+sched_goes t e list = by (sched_step e list t).1.rows (sched_shape t list e).rows
   where
-    shape : SchedShape t (sched_step e list t)
-    shape = sched_shape t e list
-
-    by : RowsAfter t.rows (sched_step e list t).1.rows → RowsFollowTables t.rows (sched_step e list t).1.rows
-    by (inl same) = subst (RowsFollowTables t.rows) (sym same) (rows_stay t.rows)
-    by (inr (inl closed)) = subst (RowsFollowTables t.rows) (sym closed.1) (told_goes closed.0 t.rows)
-    by (inr (inr granted)) = subst (RowsFollowTables t.rows) (sym granted.1) (granted_goes granted.0 t.rows)
+    by : (next : List (AppId × Option AppRow)) → RowsAfter t.rows next → RowsFollowTables t.rows next
+    by next RowsAfter.same = rows_stay t.rows
+    by next (RowsAfter.closed_so closings) = told_goes closings t.rows
+    by next (RowsAfter.granted_so grants) = granted_goes grants t.rows
 
 -- an operation is kept
 pub kept_goes : (op : Op) (t : Tables) → RowsFollowTables t.rows (kept op t).rows
@@ -379,47 +342,29 @@ module _ (t : Tables) where
   still : RowsFollowTables t.rows t.rows
   still = rows_stay t.rows
 
-  pub master_goes : (attempt : AttemptId) (ask : MasterAsk) (reply : Reply) → RowsFollowTables t.rows (after_master attempt ask reply t).rows
-  master_goes attempt masters.Register replies.MasterRegistered =
-      one_goes (registered_row (dialogue_begun replies.MasterRegistered)) attempt.app t.rows (λ row. talked_goes row (changed of_app.Register row) (registered_row (dialogue_begun replies.MasterRegistered) row) (changed_goes of_app.Register refl row) refl refl)
-  master_goes attempt (masters.Finish text) replies.Finishing = by (goes_on (spoken_by attempt (row_of t.rows attempt.app))) refl
+  message_goes : (message : Message) (reply : Reply) → RowsFollowTables t.rows (after_message message reply t).rows
+  message_goes message reply = by message reply (after_message message reply t) (message_outcome t message reply)
     where
-      by : (b : Bool) → goes_on (spoken_by attempt (row_of t.rows attempt.app)) ≡ b → RowsFollowTables t.rows (after_master attempt (masters.Finish text) replies.Finishing t).rows
-      by true e =
-          rw e
-          (one_goes (said_row (with_text text)) attempt.app t.rows
-          (λ row. talked_goes row (changed (of_app.OfAttempt of_attempt.Finish) row) (said_row (with_text text) row) (changed_goes (of_app.OfAttempt of_attempt.Finish) refl row) refl refl))
-      by false e = rw e still
-  master_goes attempt (masters.Allocate id asks release) (replies.Allocated next grants ended) = by (is_new_to id (spoken_by attempt (row_of t.rows attempt.app))) refl
-    where
-      by : (b : Bool) → is_new_to id (spoken_by attempt (row_of t.rows attempt.app)) ≡ b → RowsFollowTables t.rows (after_master attempt (masters.Allocate id asks release) (replies.Allocated next grants ended) t).rows
-      by true e =
-          rw e
-          (one_goes (told_row (with_answer (id + 1) (replies.Allocated next grants ended)) (without_closings attempt)) attempt.app t.rows
-          (λ row. talked_goes row row (told_row (with_answer (id + 1) (replies.Allocated next grants ended)) (without_closings attempt) row) (row_stays row) refl refl))
-      by false e = rw e still
-  master_goes attempt _ _ = still
+      by : (message : Message) (reply : Reply) (next : Tables) → MessageOutcome t message reply next → RowsFollowTables t.rows next.rows
+      by message reply next (comes.joins user id submission found) = more_goes id (submitted_row submission) t.rows
+      by message reply next (comes.wishes user id row found new) = one_goes (changed of_app.Wish) id t.rows (changed_goes of_app.Wish refl)
+      by message reply next (comes.registers attempt answer so) =
+          one_goes (registered_row (dialogue_begun answer)) attempt.app t.rows (λ row. talked_goes row (changed of_app.Register row) (registered_row (dialogue_begun answer) row) (changed_goes of_app.Register refl row) refl refl)
+      by message reply next (comes.finishes attempt text goes) =
+          one_goes (said_row (with_text text)) attempt.app t.rows (λ row. talked_goes row (changed (of_app.OfAttempt of_attempt.Finish) row) (said_row (with_text text) row) (changed_goes (of_app.OfAttempt of_attempt.Finish) refl row) refl refl)
+      by message reply next (comes.allocates attempt id asks release answer so new) =
+          one_goes (told_row (with_answer (id + 1) answer) (without_closings attempt)) attempt.app t.rows
+          (λ row. talked_goes row row (told_row (with_answer (id + 1) answer) (without_closings attempt) row) (row_stays row) refl refl)
+      by message reply next _ = still
 
   pub client_goes : (ask : ClientAsk) (reply : Reply) → RowsFollowTables t.rows (after_client ask reply t).rows
-  client_goes (clients.Submit id s) replies.Submitted = by (row_of t.rows id) refl
-    where
-      by : (o : Option AppRow) → row_of t.rows id ≡ o → RowsFollowTables t.rows (taken_by o id s t).rows
-      by None e = more_goes id (submitted_row s) t.rows
-      by (Some row) e = still
-  client_goes (clients.Kill id) replies.Killing = by (row_of t.rows id)
-    where
-      wishes : (row : AppRow) (b : Bool) → row.wish ≡ b → RowsFollowTables t.rows (wished_by (Some row) id t).rows
-      wishes row true e = rw e still
-      wishes row false e = rw e (one_goes (changed of_app.Wish) id t.rows (changed_goes of_app.Wish refl))
+  client_goes ask reply = message_goes (messages.Client [] ask) reply
 
-      by : (o : Option AppRow) → RowsFollowTables t.rows (wished_by o id t).rows
-      by None = still
-      by (Some row) = wishes row row.wish refl
-  client_goes clients.New (replies.New id) = still
-  client_goes _ _ = still
+  pub master_goes : (attempt : AttemptId) (ask : MasterAsk) (reply : Reply) → RowsFollowTables t.rows (after_master attempt ask reply t).rows
+  master_goes attempt ask reply = message_goes (messages.Master attempt ask) reply
 
   pub node_goes : (name : List ℕ) (ask : NodeAsk) (reply : Reply) → RowsFollowTables t.rows (after_node name ask reply t).rows
-  node_goes name ask reply = subst (RowsFollowTables t.rows) (sym (node_rows name ask reply t)) still
+  node_goes name ask reply = message_goes (messages.Node name ask) reply
 
   pub clock_goes : (ask : ClockAsk) (reply : Reply) → RowsFollowTables t.rows (after_clock ask reply t).rows
-  clock_goes ask reply = subst (RowsFollowTables t.rows) (sym (clock_rows ask reply t)) still
+  clock_goes ask reply = message_goes (messages.Clock ask) reply

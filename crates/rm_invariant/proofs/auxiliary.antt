@@ -1,6 +1,7 @@
 -- Each move keeps what else holds of an open life.
 pub mod Rows
 pub mod Parts
+pub mod Together
 pub mod MainEvents
 pub mod SchedEvents
 pub mod KeptOps

@@ -1,5 +1,7 @@
 -- Each event of both queues, and each operation once it is kept, keeps all of it.
 pub mod Outcomes
+pub mod SchedOutcomes
+pub mod SchedShapes
 pub mod Launches
 pub mod Told
 pub mod Ended
@@ -35,7 +37,6 @@ pub mod AppMoves
 pub mod MasterMoves
 pub mod Ordering
 pub mod Silent
-pub mod SilentSched
 pub mod Still
 pub mod MainQueue
 pub mod SchedQueue

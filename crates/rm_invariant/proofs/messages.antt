@@ -1,11 +1,13 @@
 -- Each message keeps all of it.
+pub mod Outcomes
+pub mod LifeOutcomes
+pub mod MessageShapes
 pub mod Answered
 pub mod Changes
 pub mod Clock
 pub mod Registering
 pub mod Beating
 pub mod Present
-pub mod Rows
 pub mod Known
 pub mod Shapes
 pub mod Marked

@@ -25,12 +25,8 @@ pub record MayEndAttempt (id : AttemptId) (v : View) : Type 0 where
 
 module _ (h : History) (t : Tables) (q : AttemptId) (settings : Settings) (o : t.is_open ≡ true) where
   under_app : (op : Op) → is_attempt_op (next_attempt (abstract_scene h t) q.app) op ≡ true → is_attempt_op_of q.app op ≡ true
-  under_app (ops.Epoch next stamp) e = cc
-  under_app (ops.App one submission) e = cc
   under_app (ops.Attempt one master node) e = grind (arith, nat_tests)
-  under_app (ops.AttemptEnd one how text) e = cc
-  under_app (ops.AppEnd one how text) e = cc
-  under_app (ops.Remove one) e = cc
+  under_app _ e = cc
 
   -- an AppEnd may be issued
   pub app_end_lawful : MayStop (view h t q) → (how : How) (text : List ℕ) → end_by settings (abstract_scene h t) q.app (last_end (abstract_scene h t) q.app) ≡ Some (how, text)
@@ -51,12 +47,8 @@ module _ (h : History) (t : Tables) (q : AttemptId) (settings : Settings) (o : t
       }
 
   under_end : (id : AttemptId) → id.app ≡ q.app → (op : Op) → is_attempt_end_op id op ≡ true → is_attempt_end_op_of q.app op ≡ true
-  under_end id a (ops.Epoch next stamp) e = cc
-  under_end id a (ops.App one submission) e = cc
-  under_end id a (ops.Attempt one master node) e = cc
   under_end id a (ops.AttemptEnd one how text) e = rw (← a) (grind (arith, nat_tests))
-  under_end id a (ops.AppEnd one how text) e = cc
-  under_end id a (ops.Remove one) e = cc
+  under_end id a _ e = cc
 
   -- an AttemptEnd may be issued
   pub attempt_end_lawful : (number : ℕ) → MayEndAttempt (record { app = q.app; number = number }) (view h t q) → (how : How) (text : List ℕ)

@@ -161,12 +161,7 @@ module _ (settings : Settings) (h : History) (t : Tables) (k : AppsInvariant set
     kill_some apps.Running is (Some current) e = kill_current current e (rw is refl) current.state refl
     kill_some apps.Killing is None e = no_current e (rw is refl)
     kill_some apps.Killing is (Some current) e = kill_current current e (rw is refl) current.state refl
-    kill_some apps.New is c e = kill_idle (rw is (λ u. cc)) (rw is refl)
-    kill_some apps.NewSaving is c e = kill_idle (rw is (λ u. cc)) (rw is refl)
-    kill_some apps.FinalSaving is c e = kill_idle (rw is (λ u. cc)) (rw is refl)
-    kill_some apps.Finished is c e = kill_idle (rw is (λ u. cc)) (rw is refl)
-    kill_some apps.Failed is c e = kill_idle (rw is (λ u. cc)) (rw is refl)
-    kill_some apps.Killed is c e = kill_idle (rw is (λ u. cc)) (rw is refl)
+    kill_some _ is c e = kill_idle (rw is (λ u. cc)) (rw is refl)
 
   pub kill_steps : (row : Option AppRow) → row_of t.rows id ≡ row → KillSteps (kill_of_row row id t)
   kill_steps None found = kill_nothing None found (λ q says. killed_unknown settings q (view h (main_popped t) q) says)
@@ -233,14 +228,7 @@ module _ (settings : Settings) (h : History) (t : Tables) (k : AppsInvariant set
       done_current : (s : AttemptState) → current.state ≡ s → DoneSteps (decision_of_attempt_state s row.wish a.app t)
       done_current attempts.Ended e =
           decided_step e (end_with t.settings row.wish (found_in t a.app) (last_end_in (found_in t a.app))) (ap (λ (s : Settings). end_with s row.wish (found_in t a.app) (last_end_in (found_in t a.app))) set)
-      done_current attempts.Scheduled e = done_other (rw e (λ u. cc))
-      done_current attempts.Granted e = done_other (rw e (λ u. cc))
-      done_current attempts.Saving e = done_other (rw e (λ u. cc))
-      done_current attempts.Live e = done_other (rw e (λ u. cc))
-      done_current attempts.Registered e = done_other (rw e (λ u. cc))
-      done_current attempts.Finishing e = done_other (rw e (λ u. cc))
-      done_current attempts.Ending e = done_other (rw e (λ u. cc))
-      done_current attempts.Dropped e = done_other (rw e (λ u. cc))
+      done_current _ e = done_other (rw e (λ u. cc))
 
     done_alone : row.current ≡ None → is_active row.state ≡ true → DoneSteps (main_quiet t)
     done_alone none active =

@@ -70,15 +70,7 @@ module _ (settings : Settings) (h : History) (t : Tables) (k : AppsInvariant set
 
     pub saved_in_state : (row : AppRow) → row_of t.rows id ≡ Some row → row.wish ≡ false → (s : AppState) → row.state ≡ s → SavedSteps (save_of_state s false id t)
     saved_in_state row found wish apps.Submitted is = saved_now row found is wish
-    saved_in_state row found wish apps.New is = saved_idle row found (rw is (λ u. cc))
-    saved_in_state row found wish apps.NewSaving is = saved_idle row found (rw is (λ u. cc))
-    saved_in_state row found wish apps.Accepted is = saved_idle row found (rw is (λ u. cc))
-    saved_in_state row found wish apps.Running is = saved_idle row found (rw is (λ u. cc))
-    saved_in_state row found wish apps.Killing is = saved_idle row found (rw is (λ u. cc))
-    saved_in_state row found wish apps.FinalSaving is = saved_idle row found (rw is (λ u. cc))
-    saved_in_state row found wish apps.Finished is = saved_idle row found (rw is (λ u. cc))
-    saved_in_state row found wish apps.Failed is = saved_idle row found (rw is (λ u. cc))
-    saved_in_state row found wish apps.Killed is = saved_idle row found (rw is (λ u. cc))
+    saved_in_state row found wish _ is = saved_idle row found (rw is (λ u. cc))
 
     pub saved_none : row_of t.rows id ≡ None → SavedSteps (Quiet MainLane, t)
     saved_none found = quiet (mains.AppSaved id) save_more front None found (λ q v other. rw other refl) (λ q v same. rw same refl) (λ q says. saved_unknown settings q (view h (main_popped t) q) says)

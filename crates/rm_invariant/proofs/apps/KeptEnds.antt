@@ -48,10 +48,7 @@ module _ (settings : Settings) (q : AttemptId) (v : View) where
   end_active apps.Accepted row says = refl
   end_active apps.Running row says = refl
   end_active apps.Killing row says = refl
-  end_active apps.FinalSaving row says = grind arith
-  end_active apps.Finished row says = grind arith
-  end_active apps.Failed row says = grind arith
-  end_active apps.Killed row says = grind arith
+  end_active _ row says = grind arith
 
   end_current : (row : AppRow) (c : Option Current) → ActiveInvariant settings q c row.wish (with_end_op q v) → row.current ≡ c → is_active row.state ≡ true → EndAwaits settings q (Some row) v
   end_current row None says is a = absurd says
@@ -208,14 +205,7 @@ module _ (settings : Settings) (h : History) (t : Tables) (k : AppsInvariant set
         where
           at_state : (s : AttemptState) → counts app_over (record m { sched = m.sched ++ dropped_at s (record { app = id; number = current.number }) }) q ≡ counts app_over m q
           at_state attempts.Dropped = sched_end app_over m q (scheds.AttemptRemoved (record { app = id; number = current.number }))
-          at_state attempts.Scheduled = none
-          at_state attempts.Granted = none
-          at_state attempts.Saving = none
-          at_state attempts.Live = none
-          at_state attempts.Registered = none
-          at_state attempts.Finishing = none
-          at_state attempts.Ending = none
-          at_state attempts.Ended = none
+          at_state _ = none
 
   pub app_end_kept_steps : t.handed ≡ true → Step settings h t (KeptEntry (ops.AppEnd id how text)) app_over (kept (ops.AppEnd id how text) t)
   app_end_kept_steps handed =

@@ -1,5 +1,5 @@
 -- The lists of submissions of an open life: how often an application stands there, what is left without the first, and which is to be issued next.
-use Rattle.rm_invariant.proofs.Common.{◌≡◌, ℕ, ◌+◌, ◌≤◌, ◌||◌, suc, List, [], ◌∷◌, ◌++◌, Bool, true, false, not, Some, filter, length, is_none, refl, sym, ◌∙◌, ap, arith, length-map, AppId, Submission, Submitted, AppRecord, is_app, new_record, app_itself, has_app, waiting_submission, Scene, going_in}
+use Rattle.rm_invariant.proofs.Common.{◌≡◌, ℕ, ◌+◌, ◌≤◌, suc, List, [], ◌∷◌, ◌++◌, Bool, true, false, not, Some, filter, length, is_none, refl, sym, ◌∙◌, ap, arith, length-map, AppId, Submission, Submitted, AppRecord, is_app, new_record, app_itself, has_app, waiting_submission, Scene, going_in}
 use Rattle.std.proofs.Common.{count_by}
 use Rattle.rm_types.proofs.TestLemmas.{or_true}
 use Rattle.rm_model.specs.Facts.{app_issued}

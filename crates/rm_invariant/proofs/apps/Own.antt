@@ -112,16 +112,10 @@ pub record IsActive (settings : Settings) (q : AttemptId) (row : AppRow) (v : Vi
   pub current : ActiveInvariant settings q row.current row.wish v
 
 active_in : (settings : Settings) (q : AttemptId) (row : AppRow) (v : View) (state : AppState) → row.state ≡ state → is_active state ≡ true → StateInvariant settings q state row v → IsActive settings q row v
-active_in settings q row v apps.New is a says = cc
-active_in settings q row v apps.NewSaving is a says = cc
-active_in settings q row v apps.Submitted is a says = cc
-active_in settings q row v apps.FinalSaving is a says = cc
-active_in settings q row v apps.Finished is a says = cc
-active_in settings q row v apps.Failed is a says = cc
-active_in settings q row v apps.Killed is a says = cc
 active_in settings q row v apps.Accepted is a says = record { starts = says.0; completed = says.1; pending = says.2; unkilled = λ k. cc; current = says.3 }
 active_in settings q row v apps.Running is a says = record { starts = says.0; completed = says.1; pending = says.2; unkilled = λ k. cc; current = says.3 }
 active_in settings q row v apps.Killing is a says = record { starts = says.0; completed = says.1; pending = says.2; unkilled = λ k. says.4; current = says.5 }
+active_in settings q row v _ is a says = cc
 
 pub active_row : (settings : Settings) (q : AttemptId) (row : AppRow) (v : View) → is_active row.state ≡ true → RowInvariant settings q (Some row) v → IsActive settings q row v
 active_row settings q row v a good = active_in settings q row v row.state refl a good.1

@@ -1,9 +1,8 @@
 -- The events of the scheduler's queue in an open life, each as a whole step: AppAdded and AttemptAdded.
-use Rattle.rm_invariant.proofs.Common.{◌≡◌, ◌⊎◌, inl, inr, ℕ, ◌&&◌, ◌||◌, suc, List, ◌∷◌, ◌++◌, Bool, true, false, not, Option, None, Some, refl, ◌∙◌, ap, subst, arith, list_any, nat_tests, or_right, AskOf, Entry, Quiet, AppId, AttemptId, AppRecord, Settings, is_app, is_attempt, record_of, app_itself, AsksOf, is_app_end_op, is_attempt_op, AppState, AttemptState, SchedEvent, AppRow, Current, Tables, found_in, sched_popped, sched_worked, row_of, master_asked, queued_at, queued_with, queued_by, History, abstract_scene}
-use Rattle.std.proofs.Common.{◌≢◌, ◌==◌, is_some, option_map}
+use Rattle.rm_invariant.proofs.Common.{◌≡◌, inr, ℕ, ◌&&◌, suc, List, ◌∷◌, ◌++◌, Bool, true, false, not, Option, None, Some, refl, ◌∙◌, ap, subst, arith, list_any, nat_tests, or_right, AskOf, Entry, Quiet, AppId, AttemptId, AppRecord, Settings, is_app, is_attempt, record_of, app_itself, AsksOf, is_app_end_op, is_attempt_op, AppState, SchedEvent, AppRow, Current, Tables, found_in, sched_popped, sched_worked, row_of, master_asked, History, abstract_scene, ContainerId, sched_quiet, sched_step}
+use Rattle.std.proofs.Common.{◌==◌, is_some, option_map}
 use Rattle.rm_types.specs.declared.entries.Entry.TheVariants.{Queued}
 use Rattle.rm_types.specs.declared.messages.Lane.TheVariants.{Sched as SchedLane}
-use Rattle.rm_types.specs.declared.operations.Op.TheVariants as ops
 use Rattle.rm_model.specs.Changes.{master_ask}
 use Rattle.rm_model.specs.Rules.{MayQueue}
 use Rattle.rm_states.specs.declared.attempt.states.AttemptState.TheVariants as attempts
@@ -18,6 +17,9 @@ use Rattle.rm_invariant.proofs.apps.Effects.{sched_taken, main_posted}
 use Rattle.rm_invariant.proofs.apps.Keeping.{step_own, unchanged}
 use Rattle.rm_invariant.proofs.apps.Own.{active_row, add_more, accept_more}
 use Rattle.rm_invariant.proofs.masters.Granted.{under_app}
+use Rattle.rm_invariant.specs.events.SchedOutcomes.{HasNothingToDo, IsNotScheduled, SchedOutcome}
+use Rattle.rm_invariant.specs.events.SchedOutcomes as outcomes
+use Rattle.rm_invariant.proofs.events.SchedOutcomes.{sched_outcome}
 
 -- what they do to the facts of their own application
 module _ (settings : Settings) (q : AttemptId) (v : View) where
@@ -51,18 +53,14 @@ module _ (settings : Settings) (q : AttemptId) (id : AttemptId) (v : View) where
       by false same good says = good
 
   -- where the attempt isn't scheduled it may go
-  abbrev IsNotIt : Option Current → Type 0
-  IsNotIt None = Unit {0}
-  IsNotIt (Some current) = (current.state ≢ attempts.Scheduled) ⊎ ((current.number == id.number) ≡ false)
-
-  quiet_state : (s : AppState) (row : AppRow) (c : Option Current) → row.current ≡ c → IsNotIt c → (b : Bool) → (id.number == q.number) ≡ b
+  quiet_state : (s : AppState) (row : AppRow) (c : Option Current) → row.current ≡ c → IsNotScheduled id.number c → (b : Bool) → (id.number == q.number) ≡ b
       → StateInvariant settings q s row (record v { count = record v.count { queueings = one_if b v.count.queueings } }) → StateInvariant settings q s row v
   quiet_state s row None is not false e says = says
   quiet_state s row None is not true e says = grind (arith, nat_tests)
   quiet_state s row (Some current) is not false e says = says
   quiet_state s row (Some current) is not true e says = grind (arith, nat_tests)
 
-  quiet_row : (row : Option AppRow) → ((one : AppRow) → row ≡ Some one → IsNotIt one.current) → (b : Bool) → (id.number == q.number) ≡ b
+  quiet_row : (row : Option AppRow) → ((one : AppRow) → row ≡ Some one → IsNotScheduled id.number one.current) → (b : Bool) → (id.number == q.number) ≡ b
       → RowInvariant settings q row (record v { count = record v.count { queueings = one_if b v.count.queueings } }) → RowInvariant settings q row v
   quiet_row None not false e good = good
   quiet_row None not true e good = grind arith
@@ -118,20 +116,18 @@ pub found_some : (found : Option AppRecord) → is_some found ≡ true → (one 
 found_some None e = cc
 found_some (Some one) e = (one, refl)
 
+-- what is said of a row is said of it as it is left
+row_left : (settings : Settings) (q : AttemptId) (v : View) (row : Option AppRow) → RowInvariant settings q row v → RowInvariant settings q (option_map (λ r. r) row) v
+row_left settings q v None says = says
+row_left settings q v (Some row) says = says
+
 -- AppAdded
 module _ (settings : Settings) (h : History) (t : Tables) (k : AppsInvariant settings h t) (id : AppId) (rest : List SchedEvent) (front : t.sched ≡ scheds.AppAdded id ∷ rest) where
-  added_with : (row : Option AppRow) → row_of t.rows id ≡ row → Step settings h t (sched_worked (added_by id t)).0 h (sched_worked (added_by id t)).1
-  added_with None found =
-      step_own settings h h t (sched_worked (added_by id t)).1 k (Quiet SchedLane) id None (λ r. r) (view h (sched_popped t)) (λ q v. sched_view q (scheds.AppAdded id) v) (λ q v. main_view q (mains.AppAccepted id) v) (λ q v. add_more v) (λ q v. accept_more v)
-      (inr refl) refl k.recorded k.is_open found (unchanged t.rows id) (λ q. sched_taken h t q (scheds.AppAdded id) rest front) (λ q. main_posted h (sched_popped t) q (mains.AppAccepted id))
-      (λ q v other. rw other refl) (λ q v other. rw other refl) (λ q v same. rw same refl) (λ q v same. rw same refl) (λ q same says. added_says settings q (view h (sched_popped t) q) None says)
-  added_with (Some row) found =
-      step_own settings h h t (sched_worked (added_by id t)).1 k (Quiet SchedLane) id (Some row) (λ r. r) (view h (sched_popped t)) (λ q v. sched_view q (scheds.AppAdded id) v) (λ q v. main_view q (mains.AppAccepted id) v) (λ q v. add_more v) (λ q v. accept_more v)
-      (inr refl) refl k.recorded k.is_open found (unchanged t.rows id) (λ q. sched_taken h t q (scheds.AppAdded id) rest front) (λ q. main_posted h (sched_popped t) q (mains.AppAccepted id))
-      (λ q v other. rw other refl) (λ q v other. rw other refl) (λ q v same. rw same refl) (λ q v same. rw same refl) (λ q same says. added_says settings q (view h (sched_popped t) q) (Some row) says)
-
   pub added_steps : Step settings h t (sched_worked (added_by id t)).0 h (sched_worked (added_by id t)).1
-  added_steps = added_with (row_of t.rows id) refl
+  added_steps =
+      step_own settings h h t (sched_worked (added_by id t)).1 k (Quiet SchedLane) id (row_of t.rows id) (λ r. r) (view h (sched_popped t)) (λ q v. sched_view q (scheds.AppAdded id) v) (λ q v. main_view q (mains.AppAccepted id) v) (λ q v. add_more v) (λ q v. accept_more v)
+      (inr refl) refl k.recorded k.is_open refl (unchanged t.rows id) (λ q. sched_taken h t q (scheds.AppAdded id) rest front) (λ q. main_posted h (sched_popped t) q (mains.AppAccepted id))
+      (λ q v other. rw other refl) (λ q v other. rw other refl) (λ q v same. rw same refl) (λ q v same. rw same refl) (λ q same says. row_left settings q (accept_more (view h (sched_popped t) q)) (row_of t.rows id) (added_says settings q (view h (sched_popped t) q) (row_of t.rows id) says))
 
 -- AttemptAdded
 module _ (settings : Settings) (h : History) (t : Tables) (k : AppsInvariant settings h t) (id : AttemptId) (rest : List SchedEvent) (front : t.sched ≡ scheds.AttemptAdded id ∷ rest) where
@@ -151,18 +147,11 @@ module _ (settings : Settings) (h : History) (t : Tables) (k : AppsInvariant set
   with_queueing_is : (q : AttemptId) (v : View) → is_app id.app q.app ≡ true → sched_view q (scheds.AttemptAdded id) v ≡ with_queueing id q v
   with_queueing_is q v same = rw same refl
 
-  queued_none : row_of t.rows id.app ≡ None → QueuedStep (Quiet SchedLane, t)
-  queued_none found =
-      idle_step (step_own settings h h t gone k (Quiet SchedLane) id.app None (λ r. r) (view h gone) (λ q v. sched_view q (scheds.AttemptAdded id) v) (λ q v. v) (λ q v. with_queueing id q v) (λ q v. v)
-      (inr refl) refl k.recorded k.is_open found (unchanged t.rows id.app) (λ q. sched_taken h t q (scheds.AttemptAdded id) rest front) (λ q. refl)
-      (λ q v other. rw other refl) (λ q v other. refl) with_queueing_is (λ q v same. refl) (λ q same says. quiet_row settings q id (view h gone q) None (λ one e. cc) (id.number == q.number) refl says))
-
-  queued_idle : (row : AppRow) → row_of t.rows id.app ≡ Some row → ((q : AttemptId) → IsNotIt settings q id (view h gone q) row.current) → QueuedStep (Quiet SchedLane, t)
-  queued_idle row found not =
-      idle_step (step_own settings h h t gone k (Quiet SchedLane) id.app (Some row) (λ r. r) (view h gone) (λ q v. sched_view q (scheds.AttemptAdded id) v) (λ q v. v) (λ q v. with_queueing id q v) (λ q v. v)
-      (inr refl) refl k.recorded k.is_open found (unchanged t.rows id.app) (λ q. sched_taken h t q (scheds.AttemptAdded id) rest front) (λ q. refl)
-      (λ q v other. rw other refl) (λ q v other. refl) with_queueing_is (λ q v same. refl)
-      (λ q same says. quiet_row settings q id (view h gone q) (Some row) (λ one e. let is : row ≡ one = cc in subst (λ (r : AppRow). IsNotIt settings q id (view h gone q) r.current) is (not q)) (id.number == q.number) refl says))
+  queued_idle : (list : List ContainerId) → HasNothingToDo (scheds.AttemptAdded id) list t → QueuedStep (sched_quiet t)
+  queued_idle list nothing =
+      idle_step (step_own settings h h t gone k (Quiet SchedLane) id.app (row_of t.rows id.app) (λ r. r) (view h gone) (λ q v. sched_view q (scheds.AttemptAdded id) v) (λ q v. v) (λ q v. with_queueing id q v) (λ q v. v)
+      (inr refl) refl k.recorded k.is_open refl (unchanged t.rows id.app) (λ q. sched_taken h t q (scheds.AttemptAdded id) rest front) (λ q. refl)
+      (λ q v other. rw other refl) (λ q v other. refl) with_queueing_is (λ q v same. refl) (λ q same says. row_left settings q (view h gone q) (row_of t.rows id.app) (quiet_row settings q id (view h gone q) (row_of t.rows id.app) nothing (id.number == q.number) refl says)))
 
   queued_now : (row : AppRow) → row_of t.rows id.app ≡ Some row → (current : Current) → row.current ≡ Some current → current.state ≡ attempts.Scheduled → (current.number == id.number) ≡ true
       → QueuedStep (Queued id, record t { asks = master_asked id (found_in t id.app) t.asks })
@@ -188,23 +177,10 @@ module _ (settings : Settings) (h : History) (t : Tables) (k : AppsInvariant set
       same_number : (n : ℕ) → (n == n) ≡ true
       same_number n = grind (arith, nat_tests)
 
-  queued_cases : (row : AppRow) → row_of t.rows id.app ≡ Some row → (current : Current) → row.current ≡ Some current → (s : AttemptState) → current.state ≡ s → (b : Bool) → (current.number == id.number) ≡ b
-      → QueuedStep (queued_at s b id t)
-  queued_cases row found current is attempts.Scheduled s true n = queued_now row found current is s n
-  queued_cases row found current is attempts.Scheduled s false n = queued_idle row found (λ q. rw is (inr n))
-  queued_cases row found current is attempts.Granted s b n = queued_idle row found (λ q. rw (is, s) (inl (λ u. cc)))
-  queued_cases row found current is attempts.Saving s b n = queued_idle row found (λ q. rw (is, s) (inl (λ u. cc)))
-  queued_cases row found current is attempts.Live s b n = queued_idle row found (λ q. rw (is, s) (inl (λ u. cc)))
-  queued_cases row found current is attempts.Registered s b n = queued_idle row found (λ q. rw (is, s) (inl (λ u. cc)))
-  queued_cases row found current is attempts.Finishing s b n = queued_idle row found (λ q. rw (is, s) (inl (λ u. cc)))
-  queued_cases row found current is attempts.Ending s b n = queued_idle row found (λ q. rw (is, s) (inl (λ u. cc)))
-  queued_cases row found current is attempts.Ended s b n = queued_idle row found (λ q. rw (is, s) (inl (λ u. cc)))
-  queued_cases row found current is attempts.Dropped s b n = queued_idle row found (λ q. rw (is, s) (inl (λ u. cc)))
-
-  queued_current : (row : AppRow) → row_of t.rows id.app ≡ Some row → (c : Option Current) → row.current ≡ c → QueuedStep (queued_with c id t)
-  queued_current row found None is = queued_idle row found (λ q. rw is tt)
-  queued_current row found (Some current) is = queued_cases row found current is current.state refl (current.number == id.number) refl
-
-  pub queued_steps : (row : Option AppRow) → row_of t.rows id.app ≡ row → QueuedStep (queued_by row id t)
-  queued_steps None found = queued_none found
-  queued_steps (Some row) found = queued_current row found row.current refl
+  pub queued_steps : (list : List ContainerId) → QueuedStep (sched_step (scheds.AttemptAdded id) list t)
+  queued_steps list = by (sched_step (scheds.AttemptAdded id) list t) (sched_outcome t list (scheds.AttemptAdded id))
+    where
+      by : (done : Entry × Tables) → SchedOutcome t list (scheds.AttemptAdded id) done → QueuedStep done
+      by done (outcomes.idles e nothing) = queued_idle list nothing
+      by done (outcomes.asks one row current is state number) = queued_now row is.found current is.is state number
+      by done (outcomes.ends e cause one ids is) = cc

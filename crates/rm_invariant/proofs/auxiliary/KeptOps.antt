@@ -1,5 +1,5 @@
 -- Each operation but an Epoch, once it is kept in an open life, keeps what else holds of it.
-use Rattle.rm_invariant.proofs.Common.{◌≡◌, ◌≤◌, inl, inr, ℕ, ◌+◌, ◌-◌, suc, List, [], ◌∷◌, ◌++◌, Bool, true, false, not, ◌&&◌, ◌||◌, Option, None, Some, drop, filter, length, map, is_none, refl, sym, ◌∙◌, ap, subst, arith, flat_map, list_any, false≢true, and_parts, nat_tests, flat_map-append, lookup-set_value, AppId, AttemptId, ContainerId, How, Op, Submission, AppRecord, Settings, is_app, is_attempt, new_record, record_of, with_end, with_record, same_attempt, same_app, app_itself, attempt_asks, without_asks_of, after, end_in, has_app, is_app_op, is_finished_op, AppState, AttemptState, RowChange, MainEvent, AppRow, Current, Tables, changed, current_after, dropped_at, dropped_by, dropped_of, kept, going_in, is_empty_slot, is_retired, row_of, slot_of, with_row, without_row, finishes_by, History, abstract_scene, live_state}
+use Rattle.rm_invariant.proofs.Common.{◌≡◌, ◌≤◌, inl, inr, ℕ, ◌+◌, ◌-◌, suc, List, [], ◌∷◌, ◌++◌, Bool, true, false, not, ◌&&◌, ◌||◌, Option, None, Some, drop, filter, length, map, is_none, refl, sym, ◌∙◌, ap, subst, arith, flat_map, list_any, false≢true, and_parts, nat_tests, flat_map-append, lookup-set_value, AppId, AttemptId, ContainerId, How, Op, Submission, AppRecord, Settings, is_app, is_attempt, new_record, record_of, with_end, with_record, same_attempt, same_app, app_itself, attempt_asks, without_asks_of, end_in, has_app, is_app_op, is_finished_op, AppState, AttemptState, RowChange, MainEvent, AppRow, Current, Tables, changed, current_after, dropped_at, dropped_by, dropped_of, kept, going_in, is_empty_slot, is_retired, row_of, slot_of, with_row, without_row, finishes_by, History}
 use Rattle.std.proofs.Common.{cond, ◌==◌, count_by, is_some, option_map}
 use Rattle.std.proofs.lemmas.List.{append-nil}
 use Rattle.rm_types.specs.declared.entries.Entry.TheVariants.{Kept as KeptEntry}
@@ -18,7 +18,7 @@ use Rattle.rm_tables.specs.Rows.{without_slot}
 use Rattle.rm_refinement.specs.Services.{finishes_with}
 use Rattle.rm_invariant.specs.apps.Completed.{Completes, is_retire, order_in, completion_order}
 use Rattle.rm_invariant.specs.apps.Invariant.{is_active, ActiveInvariant, EndKeptInvariant, EndIssuedInvariant, RowInvariant, StateInvariant}
-use Rattle.rm_invariant.specs.apps.Submissions.{Lists, saving, starting, submitted_ids}
+use Rattle.rm_invariant.specs.apps.Submissions.{saving, starting, submitted_ids}
 use Rattle.rm_invariant.specs.apps.View.{View, changed_if, gone_if, is_own_op, is_start, one_if, op_view, set_if, view}
 use Rattle.rm_invariant.proofs.apps.Completing.{completes_ended, completes_new, completes_removed, going_removed, once_changed, one_less, order_same, retire_posted, retire_still}
 use Rattle.rm_invariant.proofs.apps.Counts.{at_front, count_append, none_under}
@@ -35,15 +35,12 @@ use Rattle.rm_invariant.proofs.masters.AwaitingAttempts.{AttemptAwaits, attempt_
 use Rattle.rm_invariant.specs.events.Asking.{asks_others}
 use Rattle.rm_invariant.specs.events.Here.{AreServed}
 use Rattle.rm_invariant.specs.Core.{CoreInvariant, PreservesCore}
-use Rattle.rm_invariant.proofs.events.Firsts.{firsts_with}
 use Rattle.rm_invariant.proofs.events.Moving.{own_gone}
-use Rattle.rm_invariant.proofs.events.Silent.{MayChange, rows_silent}
-use Rattle.rm_invariant.specs.auxiliary.Parts.{FixedParts, fixed_parts}
-use Rattle.rm_invariant.specs.auxiliary.Invariant.{HasNotFinished, NoneFirst, AuxInvariant, goes_by, goes_numbered}
-use Rattle.rm_invariant.proofs.auxiliary.MainEvents.{finishes_none, firsts_same, less_others, less_single}
-use Rattle.rm_invariant.proofs.auxiliary.Parts.{parts_after}
-use Rattle.rm_invariant.proofs.auxiliary.Rows.{kept_goes, over_before, goes_every, each_with, every_with, finishes_with_row, goes_on, none_first_with, retired_with, same_with, served_append}
+use Rattle.rm_invariant.specs.auxiliary.Invariant.{NoneFirst, AuxInvariant, goes_by, goes_numbered}
+use Rattle.rm_invariant.proofs.auxiliary.MainEvents.{finishes_none, less_others, less_single}
+use Rattle.rm_invariant.proofs.auxiliary.Rows.{kept_goes, goes_every, finishes_with_row, goes_on, same_with, served_append}
 use Rattle.rm_invariant.proofs.opening.Starting.{saving_number, starting_number}
+use Rattle.rm_invariant.proofs.auxiliary.Together.{aux_after, parts_changed, rows_of}
 
 -- WHAT STAYS OF A ROW
 
@@ -61,9 +58,6 @@ module _ (change : RowChange) (none : current_after change None ≡ None) (some 
 
   pub finishes_stays : (q : AttemptId) (row : AppRow) → finishes_by q (Some (changed change row)) ≡ finishes_by q (Some row)
   finishes_stays q row = ap (finishes_with q) (current_stays row)
-
-  pub unfinished_stays : (row : AppRow) → HasNotFinished row.current → HasNotFinished (changed change row).current
-  unfinished_stays row u = subst HasNotFinished (sym (current_stays row)) u
 
 -- WHAT STAYS OF THE RECORDS
 
@@ -112,14 +106,7 @@ dropped_served releases (Some row) id = by row.current
   where
     at_state : (s : AttemptState) (attempt : AttemptId) → AreServed releases (dropped_at s attempt)
     at_state attempts.Dropped attempt = tt
-    at_state attempts.Scheduled attempt = tt
-    at_state attempts.Granted attempt = tt
-    at_state attempts.Saving attempt = tt
-    at_state attempts.Live attempt = tt
-    at_state attempts.Registered attempt = tt
-    at_state attempts.Finishing attempt = tt
-    at_state attempts.Ending attempt = tt
-    at_state attempts.Ended attempt = tt
+    at_state _ attempt = tt
 
     by : (c : Option Current) → AreServed releases (dropped_of c id)
     by None = tt
@@ -164,55 +151,35 @@ module _ (h : History) (t : Tables) (w : CoreInvariant t.settings h t) (sides : 
     left : submitted_ids (filter (is_other id) h.apps.submitted) ≡ flat_map saving rest ++ flat_map starting t.main
     left = forgets_first h.apps.submitted id (flat_map saving rest ++ flat_map starting t.main) (let o = rw front at sides.lists.order in o) once_submitted
 
-    app_lists : (g : History) → g.apps.submitted ≡ filter (is_other id) h.apps.submitted → Lists g app_next
-    app_lists g same = record { order = rw same order_after; going = rw same going_after }
-      where
-        order_after : submitted_ids (filter (is_other id) h.apps.submitted) ≡ flat_map saving (drop 1 t.awaiting) ++ flat_map starting (t.main ++ mains.AppSaved id ∷ [])
-        order_after = rw front (left ∙ simp (flat_map-append, append-nil) refl)
+    app_order : submitted_ids (filter (is_other id) h.apps.submitted) ≡ flat_map saving (drop 1 t.awaiting) ++ flat_map starting (t.main ++ mains.AppSaved id ∷ [])
+    app_order = rw front (left ∙ simp (flat_map-append, append-nil) refl)
 
-        going_after : t.going ≡ length (filter (is_other id) h.apps.submitted) + going_in (t.tree.apps ++ new_record id submission ∷ [])
-        going_after =
-            let before = submitted_length h.apps.submitted (flat_map saving t.awaiting ++ flat_map starting t.main) sides.lists.order in
-            let front_is : length (flat_map saving t.awaiting ++ flat_map starting t.main) ≡ suc (length (flat_map saving rest ++ flat_map starting t.main)) = rw front refl in
-            let behind = submitted_length (filter (is_other id) h.apps.submitted) (flat_map saving rest ++ flat_map starting t.main) left in
-            let more = going_more t.tree.apps id submission in
-            let now = sides.lists.going in
-            omega (arith, before, front_is, behind, more, now)
-
-    keep_none : current_after of_app.Keep None ≡ None
-    keep_none = refl
-
-    keep_some : (c : Current) → current_after of_app.Keep (Some c) ≡ Some c
-    keep_some c = refl
+    app_going : t.going ≡ length (filter (is_other id) h.apps.submitted) + going_in (t.tree.apps ++ new_record id submission ∷ [])
+    app_going =
+        let before = submitted_length h.apps.submitted (flat_map saving t.awaiting ++ flat_map starting t.main) sides.lists.order in
+        let front_is : length (flat_map saving t.awaiting ++ flat_map starting t.main) ≡ suc (length (flat_map saving rest ++ flat_map starting t.main)) = rw front refl in
+        let behind = submitted_length (filter (is_other id) h.apps.submitted) (flat_map saving rest ++ flat_map starting t.main) left in
+        let more = going_more t.tree.apps id submission in
+        let now = sides.lists.going in
+        omega (arith, before, front_is, behind, more, now)
 
     pub app_sides : (s : PreservesCore t.settings h t (KeptEntry (ops.App id submission), app_next)) → AuxInvariant s.next app_next
     app_sides s =
-        let same : fixed_parts s.next ≡ record (fixed_parts h) { submitted = filter (is_other id) h.apps.submitted } =
-        parts_after s.next app_next (after (live_state h t) (KeptEntry (ops.App id submission))) (record (fixed_parts h) { submitted = filter (is_other id) h.apps.submitted }) s.step.same refl in
-        let first : s.next.first ≡ h.first = ap (λ (p : FixedParts). p.first) same in
-        let retired : s.next.apps.retired ≡ h.apps.retired = ap (λ (p : FixedParts). p.retired) same in
-        let releases : s.next.endings.releases ≡ h.endings.releases = ap (λ (p : FixedParts). p.releases) same in
-        record {
+        aux_after t.settings h t (KeptEntry (ops.App id submission)) app_next app_next s h.apps.retired (filter (is_other id) h.apps.submitted) h.endings.releases refl
+        (record {
+          rows = parts_changed of_app.Keep id t.rows (λ row found. tt) (rows_of h t sides);
           completes = completes_new t app_next id submission sides.completes unkept refl refl refl refl (retire_still t.main (mains.AppSaved id));
           apt = apt_step t.tree (ops.App id submission) sides.apt tt;
-          silent = rows_silent t.rows id of_app.Keep (λ row found. silent_keep row.current) sides.silent;
-          firsts = firsts_same h s.next t app_next app_next.rows first (firsts_with (abstract_scene h t) (changed of_app.Keep) id t.rows (λ r. refl) sides.firsts);
-          none_first = rw (first, retired) (none_first_with h.first h.apps.retired (changed of_app.Keep) id t.rows sides.none_first);
           present = sides.present;
-          others = λ q some. same_with (goes_by q.number) (changed of_app.Keep) id q.app t.rows (goes_stays of_app.Keep keep_none keep_some q.number) ∙ sides.others q some;
+          others = λ q some. same_with (goes_by q.number) (changed of_app.Keep) id q.app t.rows (goes_stays of_app.Keep refl (λ c. refl) q.number) ∙ sides.others q some;
           single = sides.single;
-          waits = rw first sides.waits;
-          served = rw releases sides.served;
+          waits = sides.waits;
+          served = sides.served;
           offers = sides.offers;
-          lists = app_lists s.next (ap (λ (p : FixedParts). p.submitted) same);
-          finishes = λ q. front_finishes q (ops.App id submission) rest t.awaiting front refl ∙ sides.finishes q ∙ sym (same_with (finishes_by q) (changed of_app.Keep) id q.app t.rows (finishes_stays of_app.Keep keep_none keep_some q));
-          unfinished = every_with (λ (r : AppRow). HasNotFinished r.current) (changed of_app.Keep) id t.rows (unfinished_stays of_app.Keep keep_none keep_some) sides.unfinished;
-          retired = rw retired (retired_with h.apps.retired (changed of_app.Keep) id t.rows sides.retired);
-        }
-      where
-        silent_keep : (o : Option Current) → MayChange of_app.Keep o
-        silent_keep None = tt
-        silent_keep (Some c) = tt
+          order = app_order;
+          going = app_going;
+          finishes = λ q. front_finishes q (ops.App id submission) rest t.awaiting front refl ∙ sides.finishes q ∙ sym (same_with (finishes_by q) (changed of_app.Keep) id q.app t.rows (finishes_stays of_app.Keep refl (λ c. refl) q));
+        })
 
   -- AN ATTEMPT
   module _ (id : AttemptId) (master : ContainerId) (node : List ℕ) (rest : List Op) (front : t.awaiting ≡ ops.Attempt id master node ∷ rest) where
@@ -249,39 +216,24 @@ module _ (h : History) (t : Tables) (w : CoreInvariant t.settings h t) (sides : 
 
     pub attempt_sides : master.attempt ≡ id → (s : PreservesCore t.settings h t (KeptEntry (ops.Attempt id master node), attempt_next)) → AuxInvariant s.next attempt_next
     attempt_sides apt s =
-        let same : fixed_parts s.next ≡ fixed_parts h = parts_after s.next attempt_next (after (live_state h t) (KeptEntry (ops.Attempt id master node))) (fixed_parts h) s.step.same refl in
-        let first : s.next.first ≡ h.first = ap (λ (p : FixedParts). p.first) same in
-        let retired : s.next.apps.retired ≡ h.apps.retired = ap (λ (p : FixedParts). p.retired) same in
-        let releases : s.next.endings.releases ≡ h.endings.releases = ap (λ (p : FixedParts). p.releases) same in
-        let submitted : s.next.apps.submitted ≡ h.apps.submitted = ap (λ (p : FixedParts). p.submitted) same in
-        let c = saves.current_is in
-        let st = saves.state in
-        record {
-          completes = completes_changed t attempt_next (λ app. record app { attempts = app.attempts ++ record { id = id; master = master; node = node; ending = None } ∷ [] }) id.app (λ app. refl) (λ app. refl)
-              sides.completes refl refl refl refl (retire_still t.main (mains.AttemptSaved id));
+        aux_after t.settings h t (KeptEntry (ops.Attempt id master node)) attempt_next attempt_next s h.apps.retired h.apps.submitted h.endings.releases refl
+        (record {
+          rows = parts_changed lives id.app t.rows (λ row found. tt) (rows_of h t sides);
+          completes = completes_changed t attempt_next one_more id.app (λ app. refl) (λ app. refl) sides.completes refl refl refl refl (retire_still t.main (mains.AttemptSaved id));
           apt = apt_step t.tree (ops.Attempt id master node) sides.apt apt;
-          silent = rows_silent t.rows id.app lives (λ row found. silent_keep row.current) sides.silent;
-          firsts = firsts_same h s.next t attempt_next attempt_next.rows first (firsts_with (abstract_scene h t) (changed lives) id.app t.rows (λ r. refl) sides.firsts);
-          none_first = rw (first, retired) (none_first_with h.first h.apps.retired (changed lives) id.app t.rows sides.none_first);
           present = sides.present;
           others = λ q some. goes_every (changed lives) id.app q.app t.rows q.number (attempt_goes q.number) (sides.others q some);
           single = sides.single;
-          waits = rw first sides.waits;
-          served = rw releases sides.served;
+          waits = sides.waits;
+          served = sides.served;
           offers = sides.offers;
-          lists = record {
-            order = rw submitted (order_left (ops.Attempt id master node) rest front refl (mains.AttemptSaved id ∷ []) refl);
-            going = rw submitted
-                (sides.lists.going ∙ ap (λ n. length h.apps.submitted + n) (sym (going_same (λ app. record app { attempts = app.attempts ++ record { id = id; master = master; node = node; ending = None } ∷ [] }) (λ app. refl) id.app t.tree.apps)));
-          };
+          order = order_left (ops.Attempt id master node) rest front refl (mains.AttemptSaved id ∷ []) refl;
+          going = sides.lists.going ∙ ap (λ n. length h.apps.submitted + n) (sym (going_same one_more (λ app. refl) id.app t.tree.apps));
           finishes = attempt_finishes;
-          unfinished = each_with (changed lives) id.app t.rows saves.one saves.is (λ (r : AppRow). HasNotFinished r.current) (λ u. let f = rw c at u in rw c (λ o. f (rw st refl))) sides.unfinished;
-          retired = rw retired (retired_with h.apps.retired (changed lives) id.app t.rows sides.retired);
-        }
+        })
       where
-        silent_keep : (o : Option Current) → MayChange lives o
-        silent_keep None = tt
-        silent_keep (Some c) = tt
+        one_more : AppRecord → AppRecord
+        one_more app = record app { attempts = app.attempts ++ record { id = id; master = master; node = node; ending = None } ∷ [] }
 
   -- THE END OF AN ATTEMPT
   module _ (id : AttemptId) (how : How) (text : List ℕ) (rest : List Op) (front : t.awaiting ≡ ops.AttemptEnd id how text ∷ rest) where
@@ -330,13 +282,7 @@ module _ (h : History) (t : Tables) (w : CoreInvariant t.settings h t) (sides : 
                 state apps.Accepted a says = ending ends.one.current ends.current_is says.3
                 state apps.Running a says = ending ends.one.current ends.current_is says.3
                 state apps.Killing a says = ending ends.one.current ends.current_is says.5
-                state apps.New a says = cc
-                state apps.NewSaving a says = cc
-                state apps.Submitted a says = cc
-                state apps.FinalSaving a says = cc
-                state apps.Finished a says = cc
-                state apps.Failed a says = cc
-                state apps.Killed a says = cc
+                state _ a says = cc
 
     abbrev over : RowChange
     over = of_app.OfAttempt (of_attempt.KeepEnd how)
@@ -354,11 +300,7 @@ module _ (h : History) (t : Tables) (w : CoreInvariant t.settings h t) (sides : 
 
         own_op : (op : Op) → is_finished_op q op ≡ true → is_own_op q op ≡ true
         own_op (ops.AttemptEnd one way word) e = let x = and_parts (is_attempt one q) (is_finished way) e in let y = x.0 in rw y refl
-        own_op (ops.Epoch next stamp) e = cc
-        own_op (ops.App one s) e = cc
-        own_op (ops.Attempt one c n) e = cc
-        own_op (ops.AppEnd one way word) e = cc
-        own_op (ops.Remove one) e = cc
+        own_op _ e = cc
 
     end_finishes : (q : AttemptId) → list_any (is_finished_op q) (drop 1 t.awaiting) ≡ finishes_by q (row_of (with_row (changed over) id.app t.rows) q.app)
     end_finishes q = by (is_attempt id q) refl
@@ -411,39 +353,24 @@ module _ (h : History) (t : Tables) (w : CoreInvariant t.settings h t) (sides : 
 
     pub end_sides : (s : PreservesCore t.settings h t (KeptEntry (ops.AttemptEnd id how text), end_next)) → AuxInvariant s.next end_next
     end_sides s =
-        let same : fixed_parts s.next ≡ fixed_parts h = parts_after s.next end_next (after (live_state h t) (KeptEntry (ops.AttemptEnd id how text))) (fixed_parts h) s.step.same refl in
-        let first : s.next.first ≡ h.first = ap (λ (p : FixedParts). p.first) same in
-        let retired : s.next.apps.retired ≡ h.apps.retired = ap (λ (p : FixedParts). p.retired) same in
-        let releases : s.next.endings.releases ≡ h.endings.releases = ap (λ (p : FixedParts). p.releases) same in
-        let submitted : s.next.apps.submitted ≡ h.apps.submitted = ap (λ (p : FixedParts). p.submitted) same in
-        record {
-          completes = completes_changed t end_next (λ app. record app { attempts = map (with_end id how text) app.attempts }) id.app (λ app. refl) (λ app. refl) sides.completes refl refl refl refl (retire_still t.main (mains.AttemptDone id));
+        aux_after t.settings h t (KeptEntry (ops.AttemptEnd id how text)) end_next end_next s h.apps.retired h.apps.submitted h.endings.releases refl
+        (record {
+          rows = parts_changed over id.app t.rows (λ row found. tt) (rows_of h t sides);
+          completes = completes_changed t end_next ended id.app (λ app. refl) (λ app. refl) sides.completes refl refl refl refl (retire_still t.main (mains.AttemptDone id));
           apt = apt_step t.tree (ops.AttemptEnd id how text) sides.apt tt;
-          silent = rows_silent t.rows id.app over (λ row found. silent_end row.current) sides.silent;
-          firsts = firsts_same h s.next t end_next end_next.rows first (firsts_with (abstract_scene h t) (changed over) id.app t.rows (λ r. refl) sides.firsts);
-          none_first = rw (first, retired) (none_first_with h.first h.apps.retired (changed over) id.app t.rows sides.none_first);
           present = sides.present;
           others = end_others;
           single = less_single t id sides.single;
-          waits = rw first sides.waits;
-          served = rw releases (served_append h.endings.releases t.sched (scheds.AttemptRemoved id ∷ []) sides.served tt);
+          waits = sides.waits;
+          served = served_append h.endings.releases t.sched (scheds.AttemptRemoved id ∷ []) sides.served tt;
           offers = sides.offers;
-          lists = record {
-            order = rw submitted (order_left (ops.AttemptEnd id how text) rest front refl (mains.AttemptDone id ∷ []) refl);
-            going = rw submitted (sides.lists.going ∙ ap (λ n. length h.apps.submitted + n) (sym (going_same (λ app. record app { attempts = map (with_end id how text) app.attempts }) (λ app. refl) id.app t.tree.apps)));
-          };
+          order = order_left (ops.AttemptEnd id how text) rest front refl (mains.AttemptDone id ∷ []) refl;
+          going = sides.lists.going ∙ ap (λ n. length h.apps.submitted + n) (sym (going_same ended (λ app. refl) id.app t.tree.apps));
           finishes = end_finishes;
-          unfinished = every_with (λ (r : AppRow). HasNotFinished r.current) (changed over) id.app t.rows (λ row u. ended_row row.current u) sides.unfinished;
-          retired = rw retired (retired_with h.apps.retired (changed over) id.app t.rows sides.retired);
-        }
+        })
       where
-        silent_end : (o : Option Current) → MayChange over o
-        silent_end None = tt
-        silent_end (Some c) = tt
-
-        ended_row : (o : Option Current) → HasNotFinished o → HasNotFinished (current_after over o)
-        ended_row None u = tt
-        ended_row (Some c) u = λ o. u (over_before c.state o)
+        ended : AppRecord → AppRecord
+        ended app = record app { attempts = map (with_end id how text) app.attempts }
 
 -- what an AppEnd that awaits says: the application is recorded and goes on, and isn't among the completed
 record EndWaits (v : View) : Type 0 where
@@ -481,13 +408,7 @@ remove_waits settings q (Some row) v good = by row.state good.1
     by apps.Finished says = final _ says
     by apps.Failed says = final _ says
     by apps.Killed says = final _ says
-    by apps.New says = absurd (grind (arith, nat_tests))
-    by apps.NewSaving says = absurd (grind (arith, nat_tests))
-    by apps.Submitted says = absurd (grind (arith, nat_tests))
-    by apps.Accepted says = absurd (grind (arith, nat_tests))
-    by apps.Running says = absurd (grind (arith, nat_tests))
-    by apps.Killing says = absurd (grind (arith, nat_tests))
-    by apps.FinalSaving says = absurd (grind (arith, nat_tests))
+    by _ says = absurd (grind (arith, nat_tests))
 
 -- the rows without one that is removed
 slot_empty : (id q : AppId) (rows : List (AppId × Option AppRow)) (row : AppRow) → row_of rows id ≡ Some row → is_retired (without_row id rows) q ≡ set_if (is_app id q) (is_retired rows q)
@@ -533,36 +454,22 @@ module _ (h : History) (t : Tables) (w : CoreInvariant t.settings h t) (sides : 
 
     pub ended_sides : (s : PreservesCore t.settings h t (KeptEntry (ops.AppEnd id how text), ended_next)) → AuxInvariant s.next ended_next
     ended_sides s =
-        let same : fixed_parts s.next ≡ fixed_parts h = parts_after s.next ended_next (after (live_state h t) (KeptEntry (ops.AppEnd id how text))) (fixed_parts h) s.step.same refl in
-        let first : s.next.first ≡ h.first = ap (λ (p : FixedParts). p.first) same in
-        let retired : s.next.apps.retired ≡ h.apps.retired = ap (λ (p : FixedParts). p.retired) same in
-        let releases : s.next.endings.releases ≡ h.endings.releases = ap (λ (p : FixedParts). p.releases) same in
-        let submitted : s.next.apps.submitted ≡ h.apps.submitted = ap (λ (p : FixedParts). p.submitted) same in
-        record {
+        aux_after t.settings h t (KeptEntry (ops.AppEnd id how text)) ended_next ended_next s h.apps.retired h.apps.submitted h.endings.releases refl
+        (record {
+          rows = parts_changed ends_so id t.rows (λ row found. tt) (rows_of h t sides);
           completes = completes_ended t ended_next id how text sides.completes waits.there waits.not_completed
               (λ q. record_changed with_the_end (λ one. refl) id q t.tree.apps) (λ q. once_changed with_the_end (λ one. refl) id q t.tree.apps) refl refl (retire_posted t.main mains.Retire refl);
           apt = apt_step t.tree (ops.AppEnd id how text) sides.apt tt;
-          silent = rows_silent t.rows id ends_so (λ row found. silent_end row.current) sides.silent;
-          firsts = firsts_same h s.next t ended_next ended_next.rows first (firsts_with (abstract_scene h t) (changed ends_so) id t.rows (λ r. refl) sides.firsts);
-          none_first = rw (first, retired) (none_first_with h.first h.apps.retired (changed ends_so) id t.rows sides.none_first);
           present = sides.present;
           others = λ q some. same_with (goes_by q.number) (changed ends_so) id q.app t.rows (goes_stays ends_so refl (λ c. refl) q.number) ∙ sides.others q some;
           single = sides.single;
-          waits = rw first sides.waits;
-          served = rw releases (served_append h.endings.releases t.sched (dropped_by (row_of t.rows id) id) sides.served (dropped_served h.endings.releases (row_of t.rows id) id));
+          waits = sides.waits;
+          served = served_append h.endings.releases t.sched (dropped_by (row_of t.rows id) id) sides.served (dropped_served h.endings.releases (row_of t.rows id) id);
           offers = sides.offers;
-          lists = record {
-            order = rw submitted (order_left h t w sides (ops.AppEnd id how text) rest front refl (mains.Retire ∷ []) refl);
-            going = rw submitted (going_after (record_of t.tree.apps id) refl waits.there waits.goes);
-          };
+          order = order_left h t w sides (ops.AppEnd id how text) rest front refl (mains.Retire ∷ []) refl;
+          going = going_after (record_of t.tree.apps id) refl waits.there waits.goes;
           finishes = λ q. front_finishes q (ops.AppEnd id how text) rest t.awaiting front refl ∙ sides.finishes q ∙ sym (same_with (finishes_by q) (changed ends_so) id q.app t.rows (finishes_stays ends_so refl (λ c. refl) q));
-          unfinished = every_with (λ (r : AppRow). HasNotFinished r.current) (changed ends_so) id t.rows (unfinished_stays ends_so refl (λ c. refl)) sides.unfinished;
-          retired = rw retired (retired_with h.apps.retired (changed ends_so) id t.rows sides.retired);
-        }
-      where
-        silent_end : (o : Option Current) → MayChange ends_so o
-        silent_end None = tt
-        silent_end (Some c) = tt
+        })
 
   -- A REMOVAL
   module _ (rest : List Op) (front : t.awaiting ≡ ops.Remove id ∷ rest) where
@@ -637,29 +544,24 @@ module _ (h : History) (t : Tables) (w : CoreInvariant t.settings h t) (sides : 
 
     pub removed_sides : (s : PreservesCore t.settings h t (KeptEntry (ops.Remove id), removed_next)) → AuxInvariant s.next removed_next
     removed_sides s =
-        let same : fixed_parts s.next ≡ record (fixed_parts h) { retired = h.apps.retired ++ id ∷ [] } =
-        parts_after s.next removed_next (after (live_state h t) (KeptEntry (ops.Remove id))) (record (fixed_parts h) { retired = h.apps.retired ++ id ∷ [] }) s.step.same refl in
-        let first : s.next.first ≡ h.first = ap (λ (p : FixedParts). p.first) same in
-        let retired : s.next.apps.retired ≡ h.apps.retired ++ id ∷ [] = ap (λ (p : FixedParts). p.retired) same in
-        let releases : s.next.endings.releases ≡ h.endings.releases = ap (λ (p : FixedParts). p.releases) same in
-        let submitted : s.next.apps.submitted ≡ h.apps.submitted = ap (λ (p : FixedParts). p.submitted) same in
-        record {
+        aux_after t.settings h t (KeptEntry (ops.Remove id)) removed_next removed_next s (h.apps.retired ++ id ∷ []) h.apps.submitted h.endings.releases refl
+        (record {
+          rows = record {
+            silent = λ q row there_. sides.silent q row (left_row q row there_);
+            firsts = λ q row there_. sides.firsts q row (left_row q.app row there_);
+            none_first = removed_none;
+            unfinished = λ q row there_. sides.unfinished q row (left_row q row there_);
+            known = λ q. slot_empty id q t.rows leaves.one leaves.is ∙ ap (set_if (is_app id q)) (sides.retired q) ∙ sym (has_end h.apps.retired id q);
+          };
           completes = completes_removed t removed_next id sides.completes leaves.not_completed refl refl refl refl (λ some. some);
           apt = apt_step t.tree (ops.Remove id) sides.apt tt;
-          silent = λ q row there_. sides.silent q row (left_row q row there_);
-          firsts = firsts_same h s.next t removed_next removed_next.rows first (λ q row there_. sides.firsts q row (left_row q.app row there_));
-          none_first = rw (first, retired) removed_none;
           present = sides.present;
           others = removed_others;
           single = sides.single;
-          waits = rw first sides.waits;
-          served = rw releases sides.served;
+          waits = sides.waits;
+          served = sides.served;
           offers = sides.offers;
-          lists = record {
-            order = rw (submitted, front) (let o = rw front at sides.lists.order in o);
-            going = rw submitted (going_left (record_of t.tree.apps id) refl leaves.ended);
-          };
+          order = rw front (let o = rw front at sides.lists.order in o);
+          going = going_left (record_of t.tree.apps id) refl leaves.ended;
           finishes = removed_finishes;
-          unfinished = λ q row there_. sides.unfinished q row (left_row q row there_);
-          retired = rw retired (λ q. slot_empty id q t.rows leaves.one leaves.is ∙ ap (set_if (is_app id q)) (sides.retired q) ∙ sym (has_end h.apps.retired id q));
-        }
+        })

@@ -1,5 +1,5 @@
 -- Each event of the main queue keeps what else holds of an open life.
-use Rattle.rm_invariant.proofs.Common.{◌≡◌, inl, inr, ℕ, List, [], ◌∷◌, ◌++◌, Bool, true, false, ◌&&◌, ◌||◌, Option, None, Some, drop, refl, sym, ◌∙◌, ap, subst, arith, flat_map, list_any, nat_tests, false≢true, and_parts, flat_map-append, list_any-append, Entry, AppId, AttemptId, How, is_app, is_attempt, Records, attempt_asks, without_asks_of, capability_of, after, is_finished_op, AttemptState, is_alive, RowChange, MainEvent, AppRow, Current, Tables, main_worked, changed, current_after, killed_state, scheduled, main_step, node_row, ordered_row, row_of, with_row, killed_text, finishes_by, is_ending, History, abstract_scene, live_state, AppState, Submission, Settings, Scene, Op, same_attempt, start_of_submission}
+use Rattle.rm_invariant.proofs.Common.{◌≡◌, inl, inr, ℕ, List, [], ◌∷◌, ◌++◌, Bool, true, false, ◌&&◌, ◌||◌, Option, None, Some, drop, refl, sym, ◌∙◌, ap, subst, arith, flat_map, list_any, nat_tests, false≢true, and_parts, flat_map-append, list_any-append, Entry, AppId, AttemptId, How, is_app, is_attempt, Records, attempt_asks, without_asks_of, capability_of, after, is_finished_op, AttemptState, is_alive, RowChange, MainEvent, AppRow, Current, Tables, main_worked, changed, current_after, killed_state, scheduled, main_step, node_row, ordered_row, row_of, with_row, killed_text, finishes_by, is_ending, History, abstract_scene, live_state, AppState, Submission, Settings, Op, same_attempt, start_of_submission, Scene}
 use Rattle.std.proofs.Common.{◌≢◌, ◌==◌, is_some}
 use Rattle.std.proofs.lemmas.List.{append_assoc, append-nil}
 use Rattle.rm_types.specs.declared.operations.How.TheVariants as ways
@@ -21,121 +21,53 @@ use Rattle.rm_invariant.proofs.apps.Events.{at}
 use Rattle.rm_invariant.specs.events.Outcomes.{IsCurrentOf, Outcome, MayEndApp, accepts, adds, delays, ends, ends_one, follows, idles, issues, kills, loses, orders, removes, requeues, rests_at, saves, is_past_grant}
 use Rattle.rm_invariant.proofs.events.Outcomes.{main_outcome}
 use Rattle.rm_invariant.specs.events.Asking.{asks_others}
-use Rattle.rm_invariant.specs.events.Here.{AreServed, FirstsKnown, NoneAbsent}
+use Rattle.rm_invariant.specs.events.Here.{AreServed, NoneAbsent}
 use Rattle.rm_invariant.specs.events.Masters.{are_single}
-use Rattle.rm_invariant.proofs.events.Firsts.{firsts_with}
 use Rattle.rm_invariant.proofs.events.Moving.{other_gone, own_gone}
 use Rattle.rm_invariant.proofs.events.Registered.{registered_with}
-use Rattle.rm_invariant.proofs.events.Silent.{main_silent}
 use Rattle.rm_invariant.proofs.events.Still.{main_apt, main_completes}
 use Rattle.rm_invariant.specs.auxiliary.Parts.{FixedParts, fixed_parts, parts_in}
-use Rattle.rm_invariant.proofs.auxiliary.Parts.{parts_after}
 use Rattle.rm_invariant.proofs.opening.Starting.{is_new}
 use Rattle.rm_invariant.specs.Core.{CoreInvariant, PreservesCore}
 use Rattle.rm_invariant.specs.apps.Submissions.{Lists, saving, starting, submitted_ids}
-use Rattle.rm_invariant.specs.auxiliary.Invariant.{AreUnfinished, FinishesKnown, HasNotFinished, MastersSingle, NoneFirst, OthersGo, RetiredKnown, AuxInvariant, goes_by, goes_numbered, end_is_issued}
-use Rattle.rm_invariant.proofs.auxiliary.Rows.{each_with, finishes_with_row, goes_on, goes_with_row, killed_goes, none_finished, none_first_with, retired_with, served_append, still_node}
+use Rattle.rm_invariant.specs.auxiliary.Invariant.{AreUnfinished, FinishesKnown, MastersSingle, OthersGo, AuxInvariant, goes_by, goes_numbered, end_is_issued}
+use Rattle.rm_invariant.proofs.auxiliary.Rows.{finishes_with_row, goes_on, goes_with_row, killed_goes, none_finished, served_append, still_node}
+use Rattle.rm_invariant.proofs.auxiliary.Together.{RowParts, at_found, aux_after, parts_changed, rows_of}
+use Rattle.rm_invariant.proofs.events.Silent.{MayBe, WasAlive, WasGranted}
 
 -- what the life remembers stays
 pub main_parts : (h : History) (t : Tables) (done : Entry × Tables) → Outcome t done → parts_in (after (live_state h t) done.0) ≡ Some (fixed_parts h)
 main_parts h t done idles = refl
-main_parts h t done (saves id row submission rest found waits front) = refl
-main_parts h t done (adds id row behind found state at_front) = refl
-main_parts h t done (accepts id row found state) = refl
-main_parts h t done (ends id row how text found stopped said) = refl
-main_parts h t done (kills id row current is number alive goes) = refl
-main_parts h t done (delays id row current is waits goes) = refl
-main_parts h t done (issues container node row current is state number mine on) = refl
-main_parts h t done (requeues container row current behind is state number mine on at_front) = refl
-main_parts h t done (orders id container node row current is number alive master on) = refl
-main_parts h t done (ends_one id row current how text is number alive said) = refl
-main_parts h t done (loses container row current is state number mine) = refl
-main_parts h t done (follows id row current is goes state none) = refl
-main_parts h t done (removes id more first many) = refl
+main_parts h t done _ = refl
 
 module _ (t : Tables) where
-  -- the rows tell the same of what was kept when the life began
-  main_firsts : (h : History) → FirstsKnown (abstract_scene h t) t.rows → (done : Entry × Tables) → Outcome t done → FirstsKnown (abstract_scene h t) done.1.rows
-  main_firsts h before done idles = before
-  main_firsts h before done (saves id row submission rest found waits front) = firsts_with (abstract_scene h t) (changed of_app.Issue) id t.rows (λ r. refl) before
-  main_firsts h before done (adds id row behind found state at_front) = before
-  main_firsts h before done (accepts id row found state) = firsts_with (abstract_scene h t) (changed (of_app.Schedule 1)) id t.rows (λ r. refl) before
-  main_firsts h before done (ends id row how text found stopped said) = firsts_with (abstract_scene h t) (changed of_app.End) id t.rows (λ r. refl) before
-  main_firsts h before done (kills id row current is number alive goes) = firsts_with (abstract_scene h t) (changed of_app.Kill) id.app t.rows (λ r. refl) before
-  main_firsts h before done (delays id row current is waits goes) = firsts_with (abstract_scene h t) (changed of_app.Kill) id t.rows (λ r. refl) before
-  main_firsts h before done (issues container node row current is state number mine on) = firsts_with (abstract_scene h t) (changed (of_app.OfAttempt of_attempt.Issue)) container.attempt.app t.rows (λ r. refl) before
-  main_firsts h before done (requeues container row current behind is state number mine on at_front) = firsts_with (abstract_scene h t) (changed (of_app.OfAttempt of_attempt.Requeue)) container.attempt.app t.rows (λ r. refl) before
-  main_firsts h before done (orders id container node row current is number alive master on) = before
-  main_firsts h before done (ends_one id row current how text is number alive said) = firsts_with (abstract_scene h t) (changed (of_app.OfAttempt (of_attempt.End how))) id.app t.rows (λ r. refl) before
-  main_firsts h before done (loses container row current is state number mine) = firsts_with (abstract_scene h t) (changed (of_app.OfAttempt of_attempt.Lose)) container.attempt.app t.rows (λ r. refl) before
-  main_firsts h before done (follows id row current is goes state none) = firsts_with (abstract_scene h t) (changed (of_app.Schedule _)) id t.rows (λ r. refl) before
-  main_firsts h before done (removes id more first many) = before
+  -- what is said of each row
+  module _ (m : Scene) (first : Records) (retired : List AppId) (before : RowParts m first retired t.rows) where
+    row_kept : (change : RowChange) (id : AppId) → ((row : AppRow) → row_of t.rows id ≡ Some row → MayBe change row.current) → RowParts m first retired (with_row (changed change) id t.rows)
+    row_kept change id may = parts_changed change id t.rows may before
 
-  main_none_first : (first : Records) (retired : List AppId) → NoneFirst first retired t.rows → (done : Entry × Tables) → Outcome t done → NoneFirst first retired done.1.rows
-  main_none_first first retired before done idles = before
-  main_none_first first retired before done (saves id row submission rest found waits front) = none_first_with first retired (changed of_app.Issue) id t.rows before
-  main_none_first first retired before done (adds id row behind found state at_front) = before
-  main_none_first first retired before done (accepts id row found state) = none_first_with first retired (changed (of_app.Schedule 1)) id t.rows before
-  main_none_first first retired before done (ends id row how text found stopped said) = none_first_with first retired (changed of_app.End) id t.rows before
-  main_none_first first retired before done (kills id row current is number alive goes) = none_first_with first retired (changed of_app.Kill) id.app t.rows before
-  main_none_first first retired before done (delays id row current is waits goes) = none_first_with first retired (changed of_app.Kill) id t.rows before
-  main_none_first first retired before done (issues container node row current is state number mine on) = none_first_with first retired (changed (of_app.OfAttempt of_attempt.Issue)) container.attempt.app t.rows before
-  main_none_first first retired before done (requeues container row current behind is state number mine on at_front) = none_first_with first retired (changed (of_app.OfAttempt of_attempt.Requeue)) container.attempt.app t.rows before
-  main_none_first first retired before done (orders id container node row current is number alive master on) = before
-  main_none_first first retired before done (ends_one id row current how text is number alive said) = none_first_with first retired (changed (of_app.OfAttempt (of_attempt.End how))) id.app t.rows before
-  main_none_first first retired before done (loses container row current is state number mine) = none_first_with first retired (changed (of_app.OfAttempt of_attempt.Lose)) container.attempt.app t.rows before
-  main_none_first first retired before done (follows id row current is goes state none) = none_first_with first retired (changed (of_app.Schedule _)) id t.rows before
-  main_none_first first retired before done (removes id more first_ many) = before
-
-  main_retired : (retired : List AppId) → RetiredKnown retired t.rows → (done : Entry × Tables) → Outcome t done → RetiredKnown retired done.1.rows
-  main_retired retired before done idles = before
-  main_retired retired before done (saves id row submission rest found waits front) = retired_with retired (changed of_app.Issue) id t.rows before
-  main_retired retired before done (adds id row behind found state at_front) = before
-  main_retired retired before done (accepts id row found state) = retired_with retired (changed (of_app.Schedule 1)) id t.rows before
-  main_retired retired before done (ends id row how text found stopped said) = retired_with retired (changed of_app.End) id t.rows before
-  main_retired retired before done (kills id row current is number alive goes) = retired_with retired (changed of_app.Kill) id.app t.rows before
-  main_retired retired before done (delays id row current is waits goes) = retired_with retired (changed of_app.Kill) id t.rows before
-  main_retired retired before done (issues container node row current is state number mine on) = retired_with retired (changed (of_app.OfAttempt of_attempt.Issue)) container.attempt.app t.rows before
-  main_retired retired before done (requeues container row current behind is state number mine on at_front) = retired_with retired (changed (of_app.OfAttempt of_attempt.Requeue)) container.attempt.app t.rows before
-  main_retired retired before done (orders id container node row current is number alive master on) = before
-  main_retired retired before done (ends_one id row current how text is number alive said) = retired_with retired (changed (of_app.OfAttempt (of_attempt.End how))) id.app t.rows before
-  main_retired retired before done (loses container row current is state number mine) = retired_with retired (changed (of_app.OfAttempt of_attempt.Lose)) container.attempt.app t.rows before
-  main_retired retired before done (follows id row current is goes state none) = retired_with retired (changed (of_app.Schedule _)) id t.rows before
-  main_retired retired before done (removes id more first many) = before
+    main_rows : (done : Entry × Tables) → Outcome t done → RowParts m first retired done.1.rows
+    main_rows done (saves id row submission rest found waits front) = row_kept of_app.Issue id (λ one there. tt)
+    main_rows done (accepts id row found state) = row_kept (of_app.Schedule 1) id (λ one there. tt)
+    main_rows done (ends id row how text found stopped said) = row_kept of_app.End id (λ one there. tt)
+    main_rows done (kills id row current is number alive goes) = row_kept of_app.Kill id.app (λ one there. tt)
+    main_rows done (delays id row current is waits goes) = row_kept of_app.Kill id (λ one there. tt)
+    main_rows done (issues container node row current is state number mine on) = row_kept (of_app.OfAttempt of_attempt.Issue) container.attempt.app (λ one there. tt)
+    main_rows done (requeues container row current behind is state number mine on at_front) = row_kept (of_app.OfAttempt of_attempt.Requeue) container.attempt.app (at_found WasGranted t container.attempt.app row current is state)
+    main_rows done (ends_one id row current how text is number alive said) = row_kept (of_app.OfAttempt (of_attempt.End how)) id.app (at_found WasAlive t id.app row current is alive)
+    main_rows done (loses container row current is state number mine) = row_kept (of_app.OfAttempt of_attempt.Lose) container.attempt.app (λ one there. tt)
+    main_rows done (follows id row current is goes state none) = row_kept (of_app.Schedule _) id (λ one there. tt)
+    main_rows done _ = before
 
   -- only an order changes a node, and it leaves how the node stands
   main_present : NoneAbsent t.nodes → (done : Entry × Tables) → Outcome t done → NoneAbsent done.1.nodes
-  main_present before done idles = before
-  main_present before done (saves id row submission rest found waits front) = before
-  main_present before done (adds id row behind found state at_front) = before
-  main_present before done (accepts id row found state) = before
-  main_present before done (ends id row how text found stopped said) = before
-  main_present before done (kills id row current is number alive goes) = before
-  main_present before done (delays id row current is waits goes) = before
-  main_present before done (issues container node row current is state number mine on) = before
-  main_present before done (requeues container row current behind is state number mine on at_front) = before
   main_present before done (orders id container node row current is number alive master on) = registered_with (ordered_row container) node t.nodes (λ r some. some) before
-  main_present before done (ends_one id row current how text is number alive said) = before
-  main_present before done (loses container row current is state number mine) = before
-  main_present before done (follows id row current is goes state none) = before
-  main_present before done (removes id more first many) = before
+  main_present before done _ = before
 
   -- only a node that registered offers something
   main_offers : ((name : List ℕ) → node_row t.nodes name ≡ None → capability_of t.book name ≡ None) → (done : Entry × Tables) → Outcome t done → (name : List ℕ) → node_row done.1.nodes name ≡ None → capability_of done.1.book name ≡ None
-  main_offers before done idles = before
-  main_offers before done (saves id row submission rest found waits front) = before
-  main_offers before done (adds id row behind found state at_front) = before
-  main_offers before done (accepts id row found state) = before
-  main_offers before done (ends id row how text found stopped said) = before
-  main_offers before done (kills id row current is number alive goes) = before
-  main_offers before done (delays id row current is waits goes) = before
-  main_offers before done (issues container node row current is state number mine on) = before
-  main_offers before done (requeues container row current behind is state number mine on at_front) = before
   main_offers before done (orders id container node row current is number alive master on) = λ name none. before name (still_node (ordered_row container) node name t.nodes none)
-  main_offers before done (ends_one id row current how text is number alive said) = before
-  main_offers before done (loses container row current is state number mine) = before
-  main_offers before done (follows id row current is goes state none) = before
-  main_offers before done (removes id more first many) = before
+  main_offers before done _ = before
 
   -- what is asked for besides masters, of an attempt whose asks go or stay
   pub less_others : (id q : AttemptId) → asks_others (attempt_asks (without_asks_of id t.asks) q) ≡ true → asks_others (attempt_asks t.asks q) ≡ true
@@ -155,20 +87,8 @@ module _ (t : Tables) where
       by false apart = ap are_single (other_gone id q apart t.asks) ∙ single q
 
   main_single : MastersSingle t → (done : Entry × Tables) → Outcome t done → MastersSingle done.1
-  main_single before done idles = before
-  main_single before done (saves id row submission rest found waits front) = before
-  main_single before done (adds id row behind found state at_front) = before
-  main_single before done (accepts id row found state) = before
   main_single before done (ends id row how text found stopped said) = less_single _ before
-  main_single before done (kills id row current is number alive goes) = before
-  main_single before done (delays id row current is waits goes) = before
-  main_single before done (issues container node row current is state number mine on) = before
-  main_single before done (requeues container row current behind is state number mine on at_front) = before
-  main_single before done (orders id container node row current is number alive master on) = before
-  main_single before done (ends_one id row current how text is number alive said) = before
-  main_single before done (loses container row current is state number mine) = before
-  main_single before done (follows id row current is goes state none) = before
-  main_single before done (removes id more first many) = before
+  main_single before done _ = before
 
   -- where an attempt is the current one of a row that says so, by the row's current attempt
   at_current : (n : ℕ) (row : AppRow) (o : Option Current) → row.current ≡ o → goes_by n (Some row) ≡ true → goes_numbered n o ≡ true
@@ -189,37 +109,13 @@ module _ (t : Tables) where
   state_goes change n row c d is now number state goes = rw (is, now) (goes_on n c d number state (at_current n row (Some c) is goes))
 
   rests_not : (s : AttemptState) → rests_at s ≡ true → (is_alive s || is_ending s) ≡ false
-  rests_not attempts.Scheduled e = refl
-  rests_not attempts.Granted e = refl
-  rests_not attempts.Saving e = cc
-  rests_not attempts.Live e = cc
-  rests_not attempts.Registered e = cc
-  rests_not attempts.Finishing e = cc
-  rests_not attempts.Ending e = cc
-  rests_not attempts.Ended e = refl
-  rests_not attempts.Dropped e = cc
+  rests_not s e = grind arith
 
   alive_killed : (s : AttemptState) → is_alive s ≡ true → killed_state s ≡ attempts.Ending
-  alive_killed attempts.Scheduled e = cc
-  alive_killed attempts.Granted e = cc
-  alive_killed attempts.Saving e = cc
-  alive_killed attempts.Live e = refl
-  alive_killed attempts.Registered e = refl
-  alive_killed attempts.Finishing e = refl
-  alive_killed attempts.Ending e = cc
-  alive_killed attempts.Ended e = cc
-  alive_killed attempts.Dropped e = cc
+  alive_killed s e = grind arith
 
   waits_killed : (s : AttemptState) → is_past_grant s ≡ true → killed_state s ≡ s
-  waits_killed attempts.Scheduled e = cc
-  waits_killed attempts.Granted e = cc
-  waits_killed attempts.Saving e = refl
-  waits_killed attempts.Live e = cc
-  waits_killed attempts.Registered e = cc
-  waits_killed attempts.Finishing e = cc
-  waits_killed attempts.Ending e = refl
-  waits_killed attempts.Ended e = refl
-  waits_killed attempts.Dropped e = cc
+  waits_killed s e = grind arith
 
   module _ (settings : Settings) (h : History) (k : AppsInvariant settings h t) where
     -- an application that is submitted has no attempt
@@ -241,14 +137,11 @@ module _ (t : Tables) where
         by : (s : AppState) → StateInvariant settings (at id) s row (view h t (at id)) → row.current ≡ None
         by apps.New says = says.0.no_attempt
         by apps.NewSaving says = says.0.no_attempt
-        by apps.Submitted says = no says.2
-        by apps.Accepted says = no says.2
-        by apps.Running says = no says.2
-        by apps.Killing says = no says.2
         by apps.FinalSaving says = no says.1
         by apps.Finished says = no says.1
         by apps.Failed says = no says.1
         by apps.Killed says = no says.1
+        by _ says = no says.2
 
     stopped_not : (id : AppId) (row : AppRow) → row_of t.rows id ≡ Some row → MayEndApp row → (n : ℕ) → goes_by n (Some row) ≡ true → ⊥
     stopped_not id row found (inl state) n goes = none_going n row (none_submitted id row found state) goes
@@ -256,10 +149,8 @@ module _ (t : Tables) where
 
     -- an attempt that asks for something besides its master's container goes on
     main_others : OthersGo t → (done : Entry × Tables) → Outcome t done → OthersGo done.1
-    main_others before done idles = before
     main_others before done (saves id row submission rest found waits front) = λ q some.
         goes_with_row (changed of_app.Issue) id t.rows row found q.number q.app (λ goes. absurd (none_going q.number row (none_waiting id row submission found waits) goes)) (before q some)
-    main_others before done (adds id row behind found state at_front) = before
     main_others before done (accepts id row found state) = λ q some.
         goes_with_row (changed (of_app.Schedule 1)) id t.rows row found q.number q.app (λ goes. absurd (none_going q.number row (none_submitted id row found state) goes)) (before q some)
     main_others before done (ends id row how text found stopped said) = λ q some.
@@ -274,7 +165,6 @@ module _ (t : Tables) where
         goes_with_row (changed (of_app.OfAttempt of_attempt.Issue)) container.attempt.app t.rows row is.found q.number q.app (λ goes. absurd (not_going q.number row current is.is (rw state refl) goes)) (before q some)
     main_others before done (requeues container row current behind is state number mine on at_front) = λ q some.
         goes_with_row (changed (of_app.OfAttempt of_attempt.Requeue)) container.attempt.app t.rows row is.found q.number q.app (λ goes. absurd (not_going q.number row current is.is (rw state refl) goes)) (before q some)
-    main_others before done (orders id container node row current is number alive master on) = before
     main_others before done (ends_one id row current how text is number alive said) = λ q some.
         goes_with_row (changed (of_app.OfAttempt (of_attempt.End how))) id.app t.rows row is.found q.number q.app
         (state_goes (of_app.OfAttempt (of_attempt.End how)) q.number row current (record current { state = killed_state current.state; finished = is_finished how }) is.is refl refl (killed_goes current.state)) (before q some)
@@ -282,49 +172,7 @@ module _ (t : Tables) where
         goes_with_row (changed (of_app.OfAttempt of_attempt.Lose)) container.attempt.app t.rows row is.found q.number q.app (λ goes. absurd (not_going q.number row current is.is (rw state refl) goes)) (before q some)
     main_others before done (follows id row current is goes state none) = λ q some.
         goes_with_row (changed (of_app.Schedule _)) id t.rows row is.found q.number q.app (λ goes. absurd (not_going q.number row current is.is (rw state refl) goes)) (before q some)
-    main_others before done (removes id more first many) = before
-
-    -- an attempt of which no end is issued didn't finish
-    main_unfinished : AreUnfinished t.rows → (done : Entry × Tables) → Outcome t done → AreUnfinished done.1.rows
-    main_unfinished before done idles = before
-    main_unfinished before done (saves id row submission rest found waits front) =
-        each_with (changed of_app.Issue) id t.rows row found (λ (r : AppRow). HasNotFinished r.current) (λ e. let none = none_waiting id row submission found waits in rw none tt) before
-    main_unfinished before done (adds id row behind found state at_front) = before
-    main_unfinished before done (accepts id row found state) = each_with (changed (of_app.Schedule 1)) id t.rows row found (λ (r : AppRow). HasNotFinished r.current) (λ e o. refl) before
-    main_unfinished before done (ends id row how text found stopped said) =
-        each_with (changed of_app.End) id t.rows row found (λ (r : AppRow). HasNotFinished r.current) (dropped row.current) before
-      where
-        state : (c : Current) (s : AttemptState) → c.state ≡ s → HasNotFinished (Some c) → HasNotFinished (Some (record c { state = dropped_state s }))
-        state c attempts.Scheduled is e = λ o. e (rw is refl)
-        state c attempts.Granted is e = λ o. e (rw is refl)
-        state c attempts.Saving is e = λ o. e (rw is refl)
-        state c attempts.Live is e = λ o. e (rw is refl)
-        state c attempts.Registered is e = λ o. e (rw is refl)
-        state c attempts.Finishing is e = λ o. e (rw is refl)
-        state c attempts.Ending is e = λ o. cc
-        state c attempts.Ended is e = λ o. cc
-        state c attempts.Dropped is e = λ o. e (rw is refl)
-
-        dropped : (o : Option Current) → HasNotFinished o → HasNotFinished (current_after of_app.End o)
-        dropped None e = tt
-        dropped (Some c) e = state c c.state refl e
-    main_unfinished before done (kills id row current is number alive goes) =
-        each_with (changed of_app.Kill) id.app t.rows row is.found (λ (r : AppRow). HasNotFinished r.current) (λ e. let c = is.is in let now = alive_killed current.state alive in rw (c, now) (λ o. cc)) before
-    main_unfinished before done (delays id row current is waits goes) =
-        each_with (changed of_app.Kill) id t.rows row is.found (λ (r : AppRow). HasNotFinished r.current) (λ e. let c = is.is in let now = waits_killed current.state waits in rw (c, now) (rw c at e)) before
-    main_unfinished before done (issues container node row current is state number mine on) =
-        each_with (changed (of_app.OfAttempt of_attempt.Issue)) container.attempt.app t.rows row is.found (λ (r : AppRow). HasNotFinished r.current)
-        (λ e. let c = is.is in let f = rw c at e in rw c (λ o. f (rw state refl))) before
-    main_unfinished before done (requeues container row current behind is state number mine on at_front) =
-        each_with (changed (of_app.OfAttempt of_attempt.Requeue)) container.attempt.app t.rows row is.found (λ (r : AppRow). HasNotFinished r.current) (λ e. let c = is.is in rw c (λ o. refl)) before
-    main_unfinished before done (orders id container node row current is number alive master on) = before
-    main_unfinished before done (ends_one id row current how text is number alive said) =
-        each_with (changed (of_app.OfAttempt (of_attempt.End how))) id.app t.rows row is.found (λ (r : AppRow). HasNotFinished r.current) (λ e. let c = is.is in let now = alive_killed current.state alive in rw (c, now) (λ o. cc)) before
-    main_unfinished before done (loses container row current is state number mine) =
-        each_with (changed (of_app.OfAttempt of_attempt.Lose)) container.attempt.app t.rows row is.found (λ (r : AppRow). HasNotFinished r.current) (λ e. let c = is.is in let f = rw c at e in rw c f) before
-    main_unfinished before done (follows id row current is goes state none) =
-        each_with (changed (of_app.Schedule _)) id t.rows row is.found (λ (r : AppRow). HasNotFinished r.current) (λ e o. refl) before
-    main_unfinished before done (removes id more first many) = before
+    main_others before done _ = before
 
   -- an attempt whose end isn't issued says of no end that it awaits
   pub finishes_none : (q : AttemptId) (row : AppRow) (c : Current) → row.current ≡ Some c → is_ending c.state ≡ false → finishes_by q (Some row) ≡ false
@@ -342,37 +190,16 @@ module _ (t : Tables) where
   both_none a b e f = e ∙ sym f
 
   pub alive_not : (s : AttemptState) → is_alive s ≡ true → is_ending s ≡ false
-  alive_not attempts.Scheduled e = refl
-  alive_not attempts.Granted e = refl
-  alive_not attempts.Saving e = refl
-  alive_not attempts.Live e = refl
-  alive_not attempts.Registered e = refl
-  alive_not attempts.Finishing e = refl
-  alive_not attempts.Ending e = cc
-  alive_not attempts.Ended e = refl
-  alive_not attempts.Dropped e = refl
+  alive_not s e = grind arith
 
   pub alive_over : (s : AttemptState) → is_alive s ≡ true → end_is_issued s ≡ false
-  alive_over attempts.Scheduled e = refl
-  alive_over attempts.Granted e = refl
-  alive_over attempts.Saving e = refl
-  alive_over attempts.Live e = refl
-  alive_over attempts.Registered e = refl
-  alive_over attempts.Finishing e = refl
-  alive_over attempts.Ending e = cc
-  alive_over attempts.Ended e = cc
-  alive_over attempts.Dropped e = refl
+  alive_over s e = grind arith
 
   rests_ending : (s : AttemptState) → rests_at s ≡ true → (is_ending s ≡ false) × (is_ending (dropped_state s) ≡ false)
   rests_ending attempts.Scheduled e = (refl, refl)
   rests_ending attempts.Granted e = (refl, refl)
-  rests_ending attempts.Saving e = cc
-  rests_ending attempts.Live e = cc
-  rests_ending attempts.Registered e = cc
-  rests_ending attempts.Finishing e = cc
-  rests_ending attempts.Ending e = cc
   rests_ending attempts.Ended e = (refl, refl)
-  rests_ending attempts.Dropped e = cc
+  rests_ending _ e = cc
 
   module _ (settings : Settings) (h : History) (k : AppsInvariant settings h t) (unfinished : AreUnfinished t.rows) where
     stopped_finishes : (id : AppId) (row : AppRow) → row_of t.rows id ≡ Some row → MayEndApp row → (q : AttemptId) → finishes_by q (Some (changed of_app.End row)) ≡ finishes_by q (Some row)
@@ -426,11 +253,9 @@ module _ (t : Tables) where
 
     -- the end of an attempt awaits as FINISHED exactly where its row says so
     main_finishes : FinishesKnown t → (done : Entry × Tables) → Outcome t done → FinishesKnown done.1
-    main_finishes before done idles = before
     main_finishes before done (saves id row submission rest found waits front) = λ q.
         none_finished q (ops.App id submission) t.awaiting refl ∙ before q
         ∙ sym (finishes_with_row (changed of_app.Issue) id t.rows row found q (λ e. let none = none_waiting settings h k id row submission found waits in rw none refl))
-    main_finishes before done (adds id row behind found state at_front) = before
     main_finishes before done (accepts id row found state) = λ q.
         before q ∙ sym (finishes_with_row (changed (of_app.Schedule 1)) id t.rows row found q
         (λ e. both_none _ _ (finishes_none q (changed (of_app.Schedule 1) row) _ refl refl) (finishes_without q row (none_submitted settings h k id row found state))))
@@ -452,7 +277,6 @@ module _ (t : Tables) where
     main_finishes before done (requeues container row current behind is state number mine on at_front) = λ q.
         before q ∙ sym (finishes_with_row (changed (of_app.OfAttempt of_attempt.Requeue)) container.attempt.app t.rows row is.found q
         (λ e. let c = is.is in both_none _ _ (finishes_none q (changed (of_app.OfAttempt of_attempt.Requeue) row) (record (scheduled current.number) { granted = current.granted }) (rw (c, state) refl) refl) (finishes_none q row current is.is (rw state refl))))
-    main_finishes before done (orders id container node row current is number alive master on) = before
     main_finishes before done (ends_one id row current how text is number alive said) = λ q.
         ends_finish id row current is number alive how text (of_app.OfAttempt (of_attempt.End how)) (let ending = alive_killed current.state alive in rw ending refl) before q
     main_finishes before done (loses container row current is state number mine) = λ q.
@@ -461,40 +285,20 @@ module _ (t : Tables) where
         before q ∙ sym (finishes_with_row (changed (of_app.Schedule _)) id t.rows row is.found q
         (λ e. both_none _ _ (finishes_none q (changed (of_app.Schedule _) row) _ refl refl) (finishes_none q row current is.is (rw state refl))))
     main_finishes before done (removes id more first many) = λ q. none_finished q (ops.Remove id) t.awaiting refl ∙ before q
+    main_finishes before done _ = before
 
   -- what is released and on its way was served
   main_served : (releases : List Release) → AreServed releases t.sched → (done : Entry × Tables) → Outcome t done → AreServed releases done.1.sched
-  main_served releases before done idles = before
-  main_served releases before done (saves id row submission rest found waits front) = before
   main_served releases before done (adds id row behind found state at_front) = served_append releases t.sched (scheds.AppAdded id ∷ []) before tt
   main_served releases before done (accepts id row found state) = served_append releases t.sched (scheds.AttemptAdded _ ∷ []) before tt
-  main_served releases before done (ends id row how text found stopped said) = before
-  main_served releases before done (kills id row current is number alive goes) = before
-  main_served releases before done (delays id row current is waits goes) = before
-  main_served releases before done (issues container node row current is state number mine on) = before
   main_served releases before done (requeues container row current behind is state number mine on at_front) = served_append releases t.sched (scheds.AttemptAdded container.attempt ∷ []) before tt
-  main_served releases before done (orders id container node row current is number alive master on) = before
-  main_served releases before done (ends_one id row current how text is number alive said) = before
-  main_served releases before done (loses container row current is state number mine) = before
   main_served releases before done (follows id row current is goes state none) = served_append releases t.sched (scheds.AttemptAdded _ ∷ []) before tt
-  main_served releases before done (removes id more first many) = before
+  main_served releases before done _ = before
 
   -- as many applications go on as before, and no record changes
   main_going : (done : Entry × Tables) → Outcome t done → (done.1.going ≡ t.going) × (done.1.tree ≡ t.tree) × (done.1.settings ≡ t.settings) × (done.1.waits ≡ t.waits)
   main_going done idles = (refl, refl, refl, refl)
-  main_going done (saves id row submission rest found waits front) = (refl, refl, refl, refl)
-  main_going done (adds id row behind found state at_front) = (refl, refl, refl, refl)
-  main_going done (accepts id row found state) = (refl, refl, refl, refl)
-  main_going done (ends id row how text found stopped said) = (refl, refl, refl, refl)
-  main_going done (kills id row current is number alive goes) = (refl, refl, refl, refl)
-  main_going done (delays id row current is waits goes) = (refl, refl, refl, refl)
-  main_going done (issues container node row current is state number mine on) = (refl, refl, refl, refl)
-  main_going done (requeues container row current behind is state number mine on at_front) = (refl, refl, refl, refl)
-  main_going done (orders id container node row current is number alive master on) = (refl, refl, refl, refl)
-  main_going done (ends_one id row current how text is number alive said) = (refl, refl, refl, refl)
-  main_going done (loses container row current is state number mine) = (refl, refl, refl, refl)
-  main_going done (follows id row current is goes state none) = (refl, refl, refl, refl)
-  main_going done (removes id more first many) = (refl, refl, refl, refl)
+  main_going done _ = (refl, refl, refl, refl)
 
   -- the applications that are to be issued after an event, in order
   module _ (e : MainEvent) (rest : List MainEvent) (front : t.main ≡ e ∷ rest) where
@@ -514,24 +318,17 @@ module _ (t : Tables) where
     same_rest = rw rest_is refl
 
     main_order : starting e ≡ [] → (done : Entry × Tables) → Outcome t done → to_issue done.1 ≡ flat_map saving t.awaiting ++ flat_map starting rest
-    main_order none done idles = same_rest
     main_order none done (saves id row submission other found waits first) =
         absurd (let x : mains.AppStart id ≡ e = (let y = sym first ∙ front in cc) in let z : id ∷ [] ≡ [] = ap starting x ∙ none in cc)
-    main_order none done (adds id row behind found state at_front) = same_rest
-    main_order none done (accepts id row found state) = same_rest
     main_order none done (ends id row how text found stopped said) = same_issue (ops.AppEnd id how text) refl t.main rest_is
     main_order none done (kills id row current is number alive goes) = same_issue (ops.AttemptEnd id ways.Killed killed_text) refl t.main rest_is
-    main_order none done (delays id row current is waits goes) = same_rest
     main_order none done (issues container node row current is state number mine on) = same_issue (ops.Attempt container.attempt container node) refl t.main rest_is
-    main_order none done (requeues container row current behind is state number mine on at_front) = same_rest
-    main_order none done (orders id container node row current is number alive master on) = same_rest
     main_order none done (ends_one id row current how text is number alive said) = same_issue (ops.AttemptEnd id how text) refl t.main rest_is
-    main_order none done (loses container row current is state number mine) = same_rest
-    main_order none done (follows id row current is goes state none_) = same_rest
     main_order none done (removes id more first many) =
         let after : drop 1 (t.main ++ mains.Retire ∷ []) ≡ rest ++ mains.Retire ∷ [] = rw front refl in
         let posted : flat_map starting (rest ++ mains.Retire ∷ []) ≡ flat_map starting rest = simp flat_map-append (append-nil (flat_map starting rest)) in
         rw (no_more (ops.Remove id) refl, after, posted) refl
+    main_order none done _ = same_rest
 
     -- the lists after an event that starts no application
     other_lists : (h g : History) → starting e ≡ [] → fixed_parts g ≡ fixed_parts h → Lists h t → (done : Entry × Tables) → Outcome t done → Lists g (main_worked done).1
@@ -559,10 +356,6 @@ module _ (t : Tables) where
       by submitted None e = cc
       by submitted (Some s) e = record { order = rw submitted (order_after s); going = rw submitted lists.going }
 
--- what is known of what was recorded first is known of it in another history that has it
-pub firsts_same : (h g : History) (t next : Tables) (rows : List (AppId × Option AppRow)) → g.first ≡ h.first → FirstsKnown (abstract_scene h t) rows → FirstsKnown (abstract_scene g next) rows
-firsts_same h g t next rows same before = let m : Scene = abstract_scene h t in subst (λ (r : Records). FirstsKnown (record m { life = record m.life { first = r } }) rows) (sym same) before
-
 -- all of it after an event of the main queue
 module _ (h : History) (t : Tables) (w : CoreInvariant t.settings h t) (sides : AuxInvariant h t) (e : MainEvent) (rest : List MainEvent) (front : t.main ≡ e ∷ rest) (some : e ≢ mains.EpochStart) where
   abbrev after_it : Tables
@@ -576,40 +369,25 @@ module _ (h : History) (t : Tables) (w : CoreInvariant t.settings h t) (sides : 
     where
       by : (e : MainEvent) → t.main ≡ e ∷ rest → Outcome t (main_step e t) → Lists g (main_worked (main_step e t)).1
       by (mains.AppStart id) front o = start_lists t t.settings h g w.keeps id rest front same sides.lists
-      by mains.EpochStart front o = other_lists t mains.EpochStart rest front h g refl same sides.lists (main_step mains.EpochStart t) o
-      by (mains.AppSaved id) front o = other_lists t (mains.AppSaved id) rest front h g refl same sides.lists (main_step (mains.AppSaved id) t) o
-      by (mains.AppAccepted id) front o = other_lists t (mains.AppAccepted id) rest front h g refl same sides.lists (main_step (mains.AppAccepted id) t) o
-      by (mains.AppKill id) front o = other_lists t (mains.AppKill id) rest front h g refl same sides.lists (main_step (mains.AppKill id) t) o
-      by (mains.MasterGranted c) front o = other_lists t (mains.MasterGranted c) rest front h g refl same sides.lists (main_step (mains.MasterGranted c) t) o
-      by (mains.AttemptSaved id) front o = other_lists t (mains.AttemptSaved id) rest front h g refl same sides.lists (main_step (mains.AttemptSaved id) t) o
-      by (mains.MasterLost c) front o = other_lists t (mains.MasterLost c) rest front h g refl same sides.lists (main_step (mains.MasterLost c) t) o
-      by (mains.AttemptExpired id) front o = other_lists t (mains.AttemptExpired id) rest front h g refl same sides.lists (main_step (mains.AttemptExpired id) t) o
-      by (mains.AttemptFinish id) front o = other_lists t (mains.AttemptFinish id) rest front h g refl same sides.lists (main_step (mains.AttemptFinish id) t) o
-      by (mains.AttemptDone id) front o = other_lists t (mains.AttemptDone id) rest front h g refl same sides.lists (main_step (mains.AttemptDone id) t) o
-      by mains.Retire front o = other_lists t mains.Retire rest front h g refl same sides.lists (main_step mains.Retire t) o
+      by e front o = other_lists t e rest front h g refl same sides.lists (main_step e t) o
 
   pub main_sides : (s : PreservesCore t.settings h t (main_worked (main_step e t))) → AuxInvariant s.next after_it
   main_sides s =
-      let same : fixed_parts s.next ≡ fixed_parts h = parts_after s.next after_it (after (live_state h t) (main_step e t).0) (fixed_parts h) s.step.same (main_parts h t (main_step e t) outcome) in
-      let first : s.next.first ≡ h.first = ap (λ (p : FixedParts). p.first) same in
-      let retired : s.next.apps.retired ≡ h.apps.retired = ap (λ (p : FixedParts). p.retired) same in
-      let releases : s.next.endings.releases ≡ h.endings.releases = ap (λ (p : FixedParts). p.releases) same in
       let stays = main_going t (main_step e t) outcome in
-      let waits = stays.3 in
-      record {
+      let lists : Lists h after_it = lists_after h refl in
+      let waits : after_it.waits ≡ t.waits = stays.3 in
+      aux_after t.settings h t (main_step e t).0 after_it after_it s h.apps.retired h.apps.submitted h.endings.releases (main_parts h t (main_step e t) outcome)
+      (record {
+        rows = main_rows t (abstract_scene h t) h.first h.apps.retired (rows_of h t sides) (main_step e t) outcome;
         completes = main_completes t e rest front outcome sides.completes;
         apt = main_apt t e outcome sides.apt;
-        silent = main_silent t sides.silent (main_step e t) outcome;
-        firsts = firsts_same h s.next t after_it (main_step e t).1.rows first (main_firsts t h sides.firsts (main_step e t) outcome);
-        none_first = rw (first, retired) (main_none_first t h.first h.apps.retired sides.none_first (main_step e t) outcome);
         present = main_present t sides.present (main_step e t) outcome;
         others = main_others t t.settings h w.keeps sides.others (main_step e t) outcome;
         single = main_single t sides.single (main_step e t) outcome;
-        waits = rw first (waits ∙ sides.waits);
-        served = rw releases (main_served t h.endings.releases sides.served (main_step e t) outcome);
+        waits = waits ∙ sides.waits;
+        served = main_served t h.endings.releases sides.served (main_step e t) outcome;
         offers = main_offers t sides.offers (main_step e t) outcome;
-        lists = lists_after s.next same;
+        order = lists.order;
+        going = lists.going;
         finishes = main_finishes t t.settings h w.keeps sides.unfinished sides.finishes (main_step e t) outcome;
-        unfinished = main_unfinished t t.settings h w.keeps sides.unfinished (main_step e t) outcome;
-        retired = rw retired (main_retired t h.apps.retired sides.retired (main_step e t) outcome);
-      }
+      })

@@ -1,15 +1,14 @@
 -- Each message keeps what else holds of an open life; each that is served is counted.
-use Rattle.rm_invariant.proofs.Common.{◌≡◌, ◌≤◌, inl, inr, ℕ, ◌+◌, List, [], ◌∷◌, ◌++◌, Bool, true, false, not, ◌&&◌, nat_le, Option, None, Some, filter, length, map, refl, sym, ◌∙◌, ap, subst, arith, if◌then◌else◌, flat_map, list_any, false≢true, and_parts, nat_tests, map-append, flat_map-append, Ask, Held, Served, AppId, AttemptId, ContainerId, ClientAsk, ClockAsk, Tick, ExpireNode, ExpireMaster, MasterAsk, Register, Finish, Allocate, NodeAsk, Submission, Reply, Resource, is_app, is_attempt, record_of, AsksOf, attempt_asks, asks_set, is_for, renewed_ask, all_asked, after, has_app, is_known, Scene, is_alive, MainEvent, SchedEvent, NodeRow, AppRow, Current, Dialogue, Tables, changed, current_after, node_row, going_in, is_retired, row_of, with_row, was_first, attempt_was_first, dialogue_begun, registered_row, said_row, told_row, with_answer, with_text, without_closings, finishes_by, lives_by, after_client, submitted_row, after_master, allocated_with, is_new_to, registered, release_events, said, spoken_by, after_clock, after_node, beat_events, is_next_beat, registered_by, OnlyNodesOffer, History, abstract_life, abstract_scene, live_state, is_later_turn, is_new_to_node, life_after_clock, life_after_node, scene, is_some_and, same_attempt, same_app, has_registered, is_live, is_registered, client_reply, is_new_to_master, life_after_master, master_reply, register_reply, MasterState, CurrentAgrees, NumberAgrees, PlainDialogue, RowAgrees, bare_dialogue, session_of, plain_dialogue, IsAsk}
+use Rattle.rm_invariant.proofs.Common.{◌≡◌, ◌≤◌, inl, inr, ℕ, ◌+◌, List, [], ◌∷◌, ◌++◌, Bool, true, false, not, ◌&&◌, nat_le, Option, None, Some, filter, length, map, refl, sym, ◌∙◌, ap, subst, arith, if◌then◌else◌, flat_map, list_any, false≢true, and_parts, nat_tests, map-append, flat_map-append, Ask, Served, AppId, AttemptId, ContainerId, ClientAsk, ClockAsk, MasterAsk, Register, Finish, Allocate, NodeAsk, Submission, Reply, is_app, is_attempt, record_of, AsksOf, attempt_asks, asks_set, is_for, renewed_ask, all_asked, after, has_app, is_known, Scene, is_alive, MainEvent, SchedEvent, AppRow, Current, Dialogue, Tables, changed, going_in, is_retired, row_of, with_row, was_first, attempt_was_first, dialogue_begun, registered_row, said_row, told_row, with_answer, with_text, without_closings, finishes_by, lives_by, after_client, submitted_row, after_master, allocated_with, is_new_to, release_events, spoken_by, after_clock, after_node, beat_events, OnlyNodesOffer, History, abstract_life, abstract_scene, live_state, scene, is_some_and, same_attempt, same_app, is_live, client_reply, is_new_to_master, life_after_master, master_reply, register_reply, MasterState, CurrentAgrees, NumberAgrees, PlainDialogue, RowAgrees, bare_dialogue, session_of, plain_dialogue, IsAsk, Message, life_after}
 use Rattle.std.proofs.Common.{◌==◌, nat_lt, count_by, length-append, is_some, option_map}
 use Rattle.std.proofs.lemmas.List.{append_assoc, append-nil}
 use Rattle.rm_types.specs.declared.messages.ClientAsk.TheVariants as clients
+use Rattle.rm_types.specs.declared.messages.Sender.{Sender}
 use Rattle.rm_types.specs.declared.messages.Message.TheVariants as messages
-use Rattle.rm_types.specs.declared.messages.NodeAsk.TheVariants as nodes
 use Rattle.rm_types.specs.declared.messages.Sender.TheVariants as senders
 use Rattle.rm_types.specs.declared.replies.Reply.TheVariants as replies
 use Rattle.rm_book.specs.ManyAsks.{asks_after, one_asked}
 use Rattle.rm_model.specs.State.{Release}
-use Rattle.rm_states.specs.declared.attempt.states.AttemptState.TheVariants as attempts
 use Rattle.rm_states.specs.declared.attempt.states.AttemptEvent.TheVariants as attempt_events
 use Rattle.rm_states.specs.attempt.Table.{next_attempt_state as next_attempt_state}
 use Rattle.rm_tables.specs.declared.changes.RowChange.TheVariants as of_app
@@ -32,9 +31,7 @@ use Rattle.rm_invariant.specs.events.MainFacts.{IsSilent}
 use Rattle.rm_invariant.specs.events.Masters.{are_single, is_single}
 use Rattle.rm_invariant.specs.Core.{CoreInvariant, PreservesCore}
 use Rattle.rm_invariant.proofs.events.Answered.{other_asks, own_asks}
-use Rattle.rm_invariant.proofs.events.Firsts.{firsts_with}
-use Rattle.rm_invariant.proofs.messages.Present.{clock_present, node_present}
-use Rattle.rm_model.specs.Nodes.{judged_node as node_told}
+use Rattle.rm_invariant.proofs.messages.Present.{message_present}
 use Rattle.std.specs.Prelude.{All}
 use Rattle.std.specs.List.{AllByRecursion}
 use Rattle.std.proofs.lemmas.List.Elements.{recursion_from_All}
@@ -42,23 +39,24 @@ use Rattle.rm_model.specs.ClientReplies.{is_given}
 use Rattle.rm_invariant.specs.messages.Ranges.{IsMasterAsk}
 use Rattle.rm_invariant.specs.auxiliary.Parts.{FixedParts, life_parts, fixed_parts, parts_in}
 use Rattle.rm_invariant.specs.auxiliary.Invariant.{FinishesKnown, HasNotFinished, MastersSingle, NoneFirst, OthersGo, AuxInvariant, goes_by, goes_numbered}
-use Rattle.rm_invariant.proofs.auxiliary.KeptOps.{finishes_stays, goes_stays, unfinished_stays}
-use Rattle.rm_invariant.proofs.auxiliary.MainEvents.{alive_not, alive_over, finishes_none, firsts_same}
+use Rattle.rm_invariant.proofs.auxiliary.KeptOps.{finishes_stays, goes_stays}
+use Rattle.rm_invariant.proofs.auxiliary.MainEvents.{alive_not, alive_over, finishes_none}
 use Rattle.rm_invariant.proofs.auxiliary.Parts.{parts_after}
-use Rattle.rm_invariant.proofs.auxiliary.Rows.{register_lives, finish_lives, alive_issued, each_with, every_with, finishes_with_row, goes_on, goes_with_row, none_first_with, retired_with, same_with, served_append}
+use Rattle.rm_invariant.proofs.auxiliary.Rows.{register_lives, finish_lives, alive_issued, finishes_with_row, goes_on, goes_with_row, same_with, served_append}
+use Rattle.rm_invariant.proofs.auxiliary.Together.{RowStays, aux_of, parts_changed, parts_with, rows_of}
+use Rattle.rm_invariant.specs.messages.Outcomes.{MessageOutcome}
+use Rattle.rm_invariant.specs.messages.Outcomes as comes
+use Rattle.rm_model.specs.State.{LifeState}
+use Rattle.rm_invariant.specs.messages.LifeOutcomes.{LifeOutcome}
+use Rattle.rm_invariant.specs.messages.LifeOutcomes as lives
+use Rattle.rm_invariant.proofs.messages.LifeOutcomes.{life_outcome}
+use Rattle.rm_invariant.proofs.messages.Outcomes.{message_outcome, registers_live}
 
 -- WHERE THE ROWS AND WHAT IS ASKED FOR STAY
 
 -- the tables have the same rows, records and asks, and only more events
 record Same (t next : Tables) : Type 0 where
-  tree : next.tree ≡ t.tree
-  settings : next.settings ≡ t.settings
-  ended : next.ended ≡ t.ended
-  waits : next.waits ≡ t.waits
-  awaiting : next.awaiting ≡ t.awaiting
-  going : next.going ≡ t.going
-  rows : next.rows ≡ t.rows
-  asks : next.asks ≡ t.asks
+  rest : next ≡ record t { nodes = next.nodes; book = next.book; given = next.given; clock = next.clock; main = next.main; sched = next.sched; served = next.served }
   more : List MainEvent
   main : next.main ≡ t.main ++ more
   starts : flat_map starting more ≡ []
@@ -77,40 +75,35 @@ retire_more t next more main some = rw main (let all = count_append is_retire t.
 
 same_sides : (h g : History) (t next : Tables) → AuxInvariant h t → fixed_parts g ≡ fixed_parts h → Same t next → NoneAbsent next.nodes → OnlyNodesOffer next → AuxInvariant g next
 same_sides h g t next sides same places present offers =
-    let first : g.first ≡ h.first = ap (λ (p : FixedParts). p.first) same in
-    let retired : g.apps.retired ≡ h.apps.retired = ap (λ (p : FixedParts). p.retired) same in
-    let releases : g.endings.releases ≡ h.endings.releases = ap (λ (p : FixedParts). p.releases) same in
-    let submitted : g.apps.submitted ≡ h.apps.submitted = ap (λ (p : FixedParts). p.submitted) same in
-    let rows : next.rows ≡ t.rows = places.rows in
-    let asks : next.asks ≡ t.asks = places.asks in
-    let tree : next.tree ≡ t.tree = places.tree in
-    let waits : next.waits ≡ t.waits = places.waits in
-    let awaiting : next.awaiting ≡ t.awaiting = places.awaiting in
-    let going : next.going ≡ t.going = places.going in
+    let rows : next.rows ≡ t.rows = ap (λ (one : Tables). one.rows) places.rest in
+    let asks : next.asks ≡ t.asks = ap (λ (one : Tables). one.asks) places.rest in
+    let tree : next.tree ≡ t.tree = ap (λ (one : Tables). one.tree) places.rest in
+    let ended : next.ended ≡ t.ended = ap (λ (one : Tables). one.ended) places.rest in
+    let settings : next.settings ≡ t.settings = ap (λ (one : Tables). one.settings) places.rest in
+    let waits : next.waits ≡ t.waits = ap (λ (one : Tables). one.waits) places.rest in
+    let awaiting : next.awaiting ≡ t.awaiting = ap (λ (one : Tables). one.awaiting) places.rest in
+    let going : next.going ≡ t.going = ap (λ (one : Tables). one.going) places.rest in
     let sched : next.sched ≡ t.sched ++ places.events = places.sched in
-    record {
-      completes = completes_still t next sides.completes places.tree places.ended places.settings (retire_more t next places.more places.main);
+    aux_of h g t next h.apps.retired h.apps.submitted h.endings.releases same
+    (record {
+      rows = rw rows (rows_of h t sides);
+      completes = completes_still t next sides.completes tree ended settings (retire_more t next places.more places.main);
       apt = rw tree sides.apt;
-      silent = rw rows sides.silent;
-      firsts = rw rows (firsts_same h g t next t.rows first sides.firsts);
-      none_first = rw (first, retired, rows) sides.none_first;
       present = present;
       others = rw (asks, rows) sides.others;
       single = rw asks sides.single;
-      waits = rw (first, waits) sides.waits;
-      served = rw (releases, sched) (served_append h.endings.releases t.sched places.events sides.served (places.quiet h.endings.releases));
+      waits = rw waits sides.waits;
+      served = rw sched (served_append h.endings.releases t.sched places.events sides.served (places.quiet h.endings.releases));
       offers = offers;
-      lists = record { order = rw submitted (more_main h t next places.more places.main places.starts places.awaiting sides.lists); going = rw (going, submitted, tree) sides.lists.going };
+      order = more_main h t next places.more places.main places.starts awaiting sides.lists;
+      going = rw (going, tree) sides.lists.going;
       finishes = rw (awaiting, rows) sides.finishes;
-      unfinished = rw rows sides.unfinished;
-      retired = rw (retired, rows) sides.retired;
-    }
+    })
 
 module _ (h : History) (t : Tables) (sides : AuxInvariant h t) (n : ℕ) where
   -- nothing changes but how many were served, and may be how many ids were given and what time it is
   idle_same : (given time : ℕ) → Same t (record t { given = given; clock = time; served = n })
-  idle_same given time =
-      record { tree = refl; settings = refl; ended = refl; waits = refl; awaiting = refl; going = refl; rows = refl; asks = refl; more = []; main = sym (append-nil t.main); starts = refl; events = []; sched = sym (append-nil t.sched); quiet = λ r. tt }
+  idle_same given time = record { rest = refl; more = []; main = sym (append-nil t.main); starts = refl; events = []; sched = sym (append-nil t.sched); quiet = λ r. tt }
 
   idle_sides : (g : History) → fixed_parts g ≡ fixed_parts h → (given time : ℕ) → AuxInvariant g (record t { given = given; clock = time; served = n })
   idle_sides g same given time = same_sides h g t (record t { given = given; clock = time; served = n }) sides same (idle_same given time) sides.present sides.offers
@@ -121,72 +114,53 @@ module _ (h : History) (t : Tables) (sides : AuxInvariant h t) (n : ℕ) where
   beat_quiet name [] releases = tt
   beat_quiet name (id ∷ done) releases = tt
 
-  registered_same : (o : Option NodeRow) (name : List ℕ) (turn : ℕ) (capability : Resource) (running : List Held) (reply : Reply) → Same t (record (registered_by o name turn capability running reply t) { served = n })
-  registered_same None name turn capability running reply =
-      record { tree = refl; settings = refl; ended = refl; waits = refl; awaiting = refl; going = refl; rows = refl; asks = refl; more = []; main = sym (append-nil t.main); starts = refl; events = scheds.NodeAdded name turn ∷ []; sched = refl; quiet = λ r. tt }
-  registered_same (Some row) name turn capability running reply = by (nat_lt row.turn turn) refl
-    where
-      by : (b : Bool) → nat_lt row.turn turn ≡ b → Same t (record (registered_by (Some row) name turn capability running reply t) { served = n })
-      by true e = rw e (record { tree = refl; settings = refl; ended = refl; waits = refl; awaiting = refl; going = refl; rows = refl; asks = refl; more = []; main = sym (append-nil t.main); starts = refl; events = scheds.NodeAdded name turn ∷ []; sched = refl; quiet = λ r. tt })
-      by false e = rw e (idle_same t.given t.clock)
+  -- events are posted to the scheduler
+  posted_same : (next : Tables) (events : List SchedEvent) → next.sched ≡ t.sched ++ events → ((releases : List Release) → AreServed releases events) → next.main ≡ t.main
+      → next ≡ record t { nodes = next.nodes; book = next.book; given = next.given; clock = next.clock; main = next.main; sched = next.sched; served = next.served } → Same t (record next { served = n })
+  posted_same next events sched quiet main rest =
+      record { rest = ap (λ (one : Tables). record one { served = n }) rest; more = []; main = main ∙ sym (append-nil t.main); starts = refl; events = events; sched = sched; quiet = quiet }
 
-  node_same : (name : List ℕ) (ask : NodeAsk) (reply : Reply) → Same t (record (after_node name ask reply t) { served = n })
-  node_same name (nodes.Register turn capability running) reply = registered_same (node_row t.nodes name) name turn capability running reply
-  node_same name (nodes.Beat id running done) (replies.Beat next launched clean) = by (is_next_beat id (node_row t.nodes name)) refl
-    where
-      by : (b : Bool) → is_next_beat id (node_row t.nodes name) ≡ b → Same t (record (after_node name (nodes.Beat id running done) (replies.Beat next launched clean) t) { served = n })
-      by true e = rw e (record { tree = refl; settings = refl; ended = refl; waits = refl; awaiting = refl; going = refl; rows = refl; asks = refl; more = []; main = sym (append-nil t.main); starts = refl; events = beat_events name done; sched = refl; quiet = beat_quiet name done })
-      by false e = rw e (idle_same t.given t.clock)
-  node_same name (nodes.Beat id running done) _ = idle_same t.given t.clock
+  node_same : (name : List ℕ) (ask : NodeAsk) (reply : Reply) (next : Tables) → MessageOutcome t (messages.Node name ask) reply next → Same t (record next { served = n })
+  node_same name ask reply next (comes.idles message one) = idle_same t.given t.clock
+  node_same name ask reply next (comes.appears node turn capability running one found) = posted_same next (scheds.NodeAdded node turn ∷ []) refl (λ r. tt) refl refl
+  node_same name ask reply next (comes.returns node turn capability running one row found later) = posted_same next (scheds.NodeAdded node turn ∷ []) refl (λ r. tt) refl refl
+  node_same name ask reply next (comes.beats node id running done answer so new) = posted_same next (beat_events node done) refl (beat_quiet node done) refl refl
 
-  -- what the life remembers stays
-  node_parts : (m : Scene) (name : List ℕ) (ask : NodeAsk) (reply : Reply) → life_parts (life_after_node m name ask reply) ≡ life_parts m.life
-  node_parts m name (nodes.Register turn capability running) (replies.NodeRegistered told epoch) = by (is_later_turn turn (node_told m.life.nodes name)) refl
-    where
-      by : (b : Bool) → is_later_turn turn (node_told m.life.nodes name) ≡ b → life_parts (life_after_node m name (nodes.Register turn capability running) (replies.NodeRegistered told epoch)) ≡ life_parts m.life
-      by true e = rw e refl
-      by false e = rw e refl
-  node_parts m name (nodes.Register turn capability running) _ = refl
-  node_parts m name (nodes.Beat id running done) (replies.Beat next launched clean) = by (is_new_to_node m name id) refl
-    where
-      by : (b : Bool) → is_new_to_node m name id ≡ b → life_parts (life_after_node m name (nodes.Beat id running done) (replies.Beat next launched clean)) ≡ life_parts m.life
-      by true e = rw e refl
-      by false e = rw e refl
-  node_parts m name (nodes.Beat id running done) _ = refl
+  -- what the life remembers stays, unless a submission joins or an allocation is served
+  abbrev LeavesParts : Message → Type 0
+  LeavesParts (messages.Client user (clients.Submit id submission)) = ⊥
+  LeavesParts (messages.Master attempt (Allocate id asks release)) = ⊥
+  LeavesParts _ = Unit {0}
+
+  parts_stay : (m : Scene) (message : Message) (reply : Reply) (life : LifeState) → LeavesParts message → LifeOutcome m message reply life → life_parts life ≡ life_parts m.life
+  parts_stay m message reply life leaves (lives.joins user id submission one unknown) = absurd leaves
+  parts_stay m message reply life leaves (lives.allocates attempt id asks release one so new) = absurd leaves
+  parts_stay m message reply life leaves _ = refl
+
+  -- so they are the same after such a message
+  same_parts : (sender : Sender) (message : Message) (reply : Reply) (next : Tables) → LeavesParts message → (s : PreservesCore t.settings h t (Served sender message reply, next)) → fixed_parts s.next ≡ fixed_parts h
+  same_parts sender message reply next leaves s =
+      let m : Scene = scene (live_state h t) (abstract_life h t) in
+      parts_after s.next next (after (live_state h t) (Served sender message reply)) (fixed_parts h) s.step.same (ap Some (parts_stay m message reply (life_after m message reply) leaves (life_outcome m message reply)))
 
   pub node_sides : (name : List ℕ) (ask : NodeAsk) (reply : Reply) (s : PreservesCore t.settings h t (Served senders.Node (messages.Node name ask) reply, after_node name ask reply t))
       → AuxInvariant s.next (record (after_node name ask reply t) { served = n })
   node_sides name ask reply s =
-      let same : fixed_parts s.next ≡ fixed_parts h =
-      parts_after s.next (after_node name ask reply t) (after (live_state h t) (Served senders.Node (messages.Node name ask) reply)) (fixed_parts h) s.step.same
-      (ap Some (node_parts (scene (live_state h t) (abstract_life h t)) name ask reply)) in
-      same_sides h s.next t (record (after_node name ask reply t) { served = n }) sides same (node_same name ask reply) (node_present name ask reply t sides.present) (node_offers name ask reply t sides.offers)
+      let same : fixed_parts s.next ≡ fixed_parts h = same_parts senders.Node (messages.Node name ask) reply (after_node name ask reply t) tt s in
+      same_sides h s.next t (record (after_node name ask reply t) { served = n }) sides same (node_same name ask reply (after_node name ask reply t) (message_outcome t (messages.Node name ask) reply)) (message_present (messages.Node name ask) reply t sides.present) (node_offers name ask reply t sides.offers)
 
   -- THE CLOCK
 
-  clock_same : (ask : ClockAsk) (reply : Reply) → Same t (record (after_clock ask reply t) { served = n })
-  clock_same (Tick time) replies.Ok = idle_same t.given (t.clock + time)
-  clock_same (ExpireNode name) replies.Ok =
-      record { tree = refl; settings = refl; ended = refl; waits = refl; awaiting = refl; going = refl; rows = refl; asks = refl; more = []; main = sym (append-nil t.main); starts = refl; events = scheds.NodeLost name ∷ []; sched = refl; quiet = λ r. tt }
-  clock_same (ExpireMaster attempt) replies.Ok =
-      record { tree = refl; settings = refl; ended = refl; waits = refl; awaiting = refl; going = refl; rows = refl; asks = refl; more = mains.AttemptExpired attempt ∷ []; main = refl; starts = refl; events = []; sched = sym (append-nil t.sched); quiet = λ r. tt }
-  clock_same (Tick time) _ = idle_same t.given t.clock
-  clock_same (ExpireNode name) _ = idle_same t.given t.clock
-  clock_same (ExpireMaster attempt) _ = idle_same t.given t.clock
-
-  clock_parts : (m : Scene) (ask : ClockAsk) (reply : Reply) → life_parts (life_after_clock m ask reply) ≡ life_parts m.life
-  clock_parts m (Tick time) replies.Ok = refl
-  clock_parts m (ExpireNode name) replies.Ok = refl
-  clock_parts m (ExpireMaster attempt) replies.Ok = refl
-  clock_parts m (Tick time) _ = refl
-  clock_parts m (ExpireNode name) _ = refl
-  clock_parts m (ExpireMaster attempt) _ = refl
+  clock_same : (ask : ClockAsk) (reply : Reply) (next : Tables) → MessageOutcome t (messages.Clock ask) reply next → Same t (record next { served = n })
+  clock_same ask reply next (comes.idles message one) = idle_same t.given t.clock
+  clock_same ask reply next (comes.ticks time) = idle_same t.given (t.clock + time)
+  clock_same ask reply next (comes.loses name) = posted_same next (scheds.NodeLost name ∷ []) refl (λ r. tt) refl refl
+  clock_same ask reply next (comes.expires attempt) = record { rest = refl; more = mains.AttemptExpired attempt ∷ []; main = refl; starts = refl; events = []; sched = sym (append-nil t.sched); quiet = λ r. tt }
 
   pub clock_sides : (ask : ClockAsk) (reply : Reply) (s : PreservesCore t.settings h t (Served senders.Clock (messages.Clock ask) reply, after_clock ask reply t)) → AuxInvariant s.next (record (after_clock ask reply t) { served = n })
   clock_sides ask reply s =
-      let same : fixed_parts s.next ≡ fixed_parts h =
-      parts_after s.next (after_clock ask reply t) (after (live_state h t) (Served senders.Clock (messages.Clock ask) reply)) (fixed_parts h) s.step.same (ap Some (clock_parts (scene (live_state h t) (abstract_life h t)) ask reply)) in
-      same_sides h s.next t (record (after_clock ask reply t) { served = n }) sides same (clock_same ask reply) (clock_present ask reply t sides.present) (clock_offers ask reply t sides.offers)
+      let same : fixed_parts s.next ≡ fixed_parts h = same_parts senders.Clock (messages.Clock ask) reply (after_clock ask reply t) tt s in
+      same_sides h s.next t (record (after_clock ask reply t) { served = n }) sides same (clock_same ask reply (after_clock ask reply t) (message_outcome t (messages.Clock ask) reply)) (message_present (messages.Clock ask) reply t sides.present) (clock_offers ask reply t sides.offers)
 
   -- A CLIENT
 
@@ -274,27 +248,27 @@ module _ (h : History) (t : Tables) (sides : AuxInvariant h t) (n : ℕ) where
 
     joined_sides : (g : History) → fixed_parts g ≡ record (fixed_parts h) { submitted = h.apps.submitted ++ record { id = id; submission = submission } ∷ [] } → AuxInvariant g joined_now
     joined_sides g same =
-        let first : g.first ≡ h.first = ap (λ (p : FixedParts). p.first) same in
-        let retired : g.apps.retired ≡ h.apps.retired = ap (λ (p : FixedParts). p.retired) same in
-        let releases : g.endings.releases ≡ h.endings.releases = ap (λ (p : FixedParts). p.releases) same in
-        let submitted : g.apps.submitted ≡ h.apps.submitted ++ record { id = id; submission = submission } ∷ [] = ap (λ (p : FixedParts). p.submitted) same in
-        record {
+        aux_of h g t joined_now h.apps.retired (h.apps.submitted ++ record { id = id; submission = submission } ∷ []) h.endings.releases same
+        (record {
+          rows = record {
+            silent = each_put (λ q row. IsSilent row.current row.dialogue) (λ q e. tt) sides.silent;
+            firsts = join_firsts;
+            none_first = join_none;
+            unfinished = each_put (λ q row. HasNotFinished row.current) (λ q e. tt) sides.unfinished;
+            known = λ q. retired_put id q (submitted_row submission) t.rows ∙ sides.retired q;
+          };
           completes = completes_still t joined_now sides.completes refl refl refl (retire_more t joined_now (mains.AppStart id ∷ []) refl);
           apt = sides.apt;
-          silent = each_put (λ q row. IsSilent row.current row.dialogue) (λ q e. tt) sides.silent;
-          firsts = firsts_same h g t joined_now rows_now first join_firsts;
-          none_first = rw (first, retired) join_none;
           present = sides.present;
           others = join_others;
           single = sides.single;
-          waits = rw first sides.waits;
-          served = rw releases sides.served;
+          waits = sides.waits;
+          served = sides.served;
           offers = sides.offers;
-          lists = record { order = rw submitted join_order; going = rw submitted join_going };
+          order = join_order;
+          going = join_going;
           finishes = join_finishes;
-          unfinished = each_put (λ q row. HasNotFinished row.current) (λ q e. tt) sides.unfinished;
-          retired = rw retired (λ q. retired_put id q (submitted_row submission) t.rows ∙ sides.retired q);
-        }
+        })
 
   -- a kill is wished for the first time
   module _ (id : AppId) where
@@ -303,34 +277,21 @@ module _ (h : History) (t : Tables) (sides : AuxInvariant h t) (n : ℕ) where
 
     wished_sides : (g : History) → fixed_parts g ≡ fixed_parts h → AuxInvariant g wished_now
     wished_sides g same =
-        let first : g.first ≡ h.first = ap (λ (p : FixedParts). p.first) same in
-        let retired : g.apps.retired ≡ h.apps.retired = ap (λ (p : FixedParts). p.retired) same in
-        let releases : g.endings.releases ≡ h.endings.releases = ap (λ (p : FixedParts). p.releases) same in
-        let submitted : g.apps.submitted ≡ h.apps.submitted = ap (λ (p : FixedParts). p.submitted) same in
-        record {
+        aux_of h g t wished_now h.apps.retired h.apps.submitted h.endings.releases same
+        (record {
+          rows = parts_changed of_app.Wish id t.rows (λ row found. tt) (rows_of h t sides);
           completes = completes_still t wished_now sides.completes refl refl refl (retire_more t wished_now (mains.AppKill id ∷ []) refl);
           apt = sides.apt;
-          silent = every_with (λ (r : AppRow). IsSilent r.current r.dialogue) (changed of_app.Wish) id t.rows wish_silent sides.silent;
-          firsts = firsts_same h g t wished_now wished_now.rows first (firsts_with (abstract_scene h t) (changed of_app.Wish) id t.rows (λ r. refl) sides.firsts);
-          none_first = rw (first, retired) (none_first_with h.first h.apps.retired (changed of_app.Wish) id t.rows sides.none_first);
           present = sides.present;
           others = λ q some. same_with (goes_by q.number) (changed of_app.Wish) id q.app t.rows (goes_stays of_app.Wish refl (λ c. refl) q.number) ∙ sides.others q some;
           single = sides.single;
-          waits = rw first sides.waits;
-          served = rw releases sides.served;
+          waits = sides.waits;
+          served = sides.served;
           offers = sides.offers;
-          lists = record { order = rw submitted (more_main h t wished_now (mains.AppKill id ∷ []) refl refl refl sides.lists); going = rw submitted sides.lists.going };
+          order = more_main h t wished_now (mains.AppKill id ∷ []) refl refl refl sides.lists;
+          going = sides.lists.going;
           finishes = λ q. sides.finishes q ∙ sym (same_with (finishes_by q) (changed of_app.Wish) id q.app t.rows (finishes_stays of_app.Wish refl (λ c. refl) q));
-          unfinished = every_with (λ (r : AppRow). HasNotFinished r.current) (changed of_app.Wish) id t.rows (unfinished_stays of_app.Wish refl (λ c. refl)) sides.unfinished;
-          retired = rw retired (retired_with h.apps.retired (changed of_app.Wish) id t.rows sides.retired);
-        }
-      where
-        wish_silent : (row : AppRow) → IsSilent row.current row.dialogue → IsSilent (current_after of_app.Wish row.current) row.dialogue
-        wish_silent row e = by row.current e
-          where
-            by : (o : Option Current) → IsSilent o row.dialogue → IsSilent (current_after of_app.Wish o) row.dialogue
-            by None e = tt
-            by (Some c) e = e
+        })
 
   -- a submission is taken only where its application wasn't removed
   not_retired : (given retired : Bool) (reply : Reply) → replies.Submitted ≡ (if not given then replies.BadId else (if retired then replies.Retired else reply)) → retired ≡ false
@@ -353,10 +314,6 @@ module _ (h : History) (t : Tables) (sides : AuxInvariant h t) (n : ℕ) where
         let same : fixed_parts s.next ≡ fixed_parts h = parts_after s.next (after_client ask reply t) (after (live_state h t) (Served senders.Client (messages.Client user ask) reply)) (fixed_parts h) s.step.same is in
         subst (AuxInvariant s.next) own (idle_sides s.next same given t.clock)
 
-    new_client : (reply : Reply) → ClientSides clients.New reply
-    new_client (replies.New id) = quiet_client clients.New (replies.New id) id.number refl refl
-    new_client reply = quiet_client clients.New reply t.given refl refl
-
     submit_client : (id : AppId) (submission : Submission) (reply : Reply) → reply ≡ client_reply t.settings (abstract_scene h t) user (clients.Submit id submission) → ClientSides (clients.Submit id submission) reply
     submit_client id submission replies.Submitted is = by (row_of t.rows id) refl (known_there id)
       where
@@ -374,26 +331,21 @@ module _ (h : History) (t : Tables) (sides : AuxInvariant h t) (n : ℕ) where
             quiet_client (clients.Submit id submission) replies.Submitted t.given (rw found refl) (rw there_ refl)
     submit_client id submission reply is = quiet_client (clients.Submit id submission) reply t.given refl refl
 
-    kill_client : (id : AppId) (reply : Reply) → ClientSides (clients.Kill id) reply
-    kill_client id replies.Killing = by (row_of t.rows id) refl
-      where
-        wish : (row : AppRow) → row_of t.rows id ≡ Some row → (b : Bool) → row.wish ≡ b → ClientSides (clients.Kill id) replies.Killing
-        wish row found true again = quiet_client (clients.Kill id) replies.Killing t.given (rw (found, again) refl) refl
-        wish row found false new = λ s.
-            let same : fixed_parts s.next ≡ fixed_parts h =
-            parts_after s.next (after_client (clients.Kill id) replies.Killing t) (after (live_state h t) (Served senders.Client (messages.Client user (clients.Kill id)) replies.Killing)) (fixed_parts h) s.step.same refl in
-            subst (AuxInvariant s.next) (rw (found, new) refl) (wished_sides id s.next same)
+    client_comes : (ask : ClientAsk) (reply : Reply) (next : Tables) → LeavesParts (messages.Client user ask) → MessageOutcome t (messages.Client user ask) reply next → (g : History) → fixed_parts g ≡ fixed_parts h → AuxInvariant g (record next { served = n })
+    client_comes ask reply next leaves (comes.idles message one) g same = idle_sides g same t.given t.clock
+    client_comes ask reply next leaves (comes.gives one id) g same = idle_sides g same id.number t.clock
+    client_comes ask reply next leaves (comes.joins one id submission found) g same = absurd leaves
+    client_comes ask reply next leaves (comes.wishes one id row found new) g same = wished_sides id g same
 
-        by : (o : Option AppRow) → row_of t.rows id ≡ o → ClientSides (clients.Kill id) replies.Killing
-        by None found = quiet_client (clients.Kill id) replies.Killing t.given (rw found refl) refl
-        by (Some row) found = wish row found row.wish refl
-    kill_client id reply = quiet_client (clients.Kill id) reply t.given refl refl
+    other_client : (ask : ClientAsk) (reply : Reply) → LeavesParts (messages.Client user ask) → ClientSides ask reply
+    other_client ask reply leaves s =
+        client_comes ask reply (after_client ask reply t) leaves (message_outcome t (messages.Client user ask) reply) s.next (same_parts senders.Client (messages.Client user ask) reply (after_client ask reply t) leaves s)
 
     pub client_sides : (ask : ClientAsk) (reply : Reply) → reply ≡ client_reply t.settings (abstract_scene h t) user ask → ClientSides ask reply
-    client_sides clients.New reply is = new_client reply
     client_sides (clients.Submit id submission) reply is = submit_client id submission reply is
-    client_sides (clients.Report id) reply is = quiet_client (clients.Report id) reply t.given refl refl
-    client_sides (clients.Kill id) reply is = kill_client id reply
+    client_sides clients.New reply is = other_client clients.New reply tt
+    client_sides (clients.Report id) reply is = other_client (clients.Report id) reply tt
+    client_sides (clients.Kill id) reply is = other_client (clients.Kill id) reply tt
 
   -- A MASTER
 
@@ -438,36 +390,32 @@ module _ (h : History) (t : Tables) (sides : AuxInvariant h t) (n : ℕ) where
     talked_finishes : (q : AttemptId) → finishes_by q (Some (f lives.row)) ≡ finishes_by q (Some lives.row)
     talked_finishes q = finishes_none t q (f lives.row) d now (alive_not t d.state alive) ∙ sym (finishes_none t q lives.row lives.current lives.is (alive_not t lives.current.state lives.alive))
 
-    talked_unfinished : HasNotFinished lives.row.current → HasNotFinished (f lives.row).current
-    talked_unfinished u =
+    talked_stays : (row : AppRow) → row_of t.rows attempt.app ≡ Some row → RowStays row (f row)
+    talked_stays row found =
         let c = lives.is in
-        let early = rw c at u in
-        rw now (λ o. flag ∙ early (alive_over t lives.current.state lives.alive))
+        let own : lives.row ≡ row = (let x : Some lives.row ≡ Some row = sym lives.found ∙ found in cc) in
+        subst (λ (one : AppRow). RowStays one (f one)) own
+        (record { silent = λ s. silent; unfinished = λ u. (let early = rw c at u in rw now (λ o. flag ∙ early (alive_over t lives.current.state lives.alive))) })
 
-    talked_sides : (g : History) (next : Tables) → next.rows ≡ with_row f attempt.app t.rows → fixed_parts g ≡ fixed_parts h → next.tree ≡ t.tree → next.settings ≡ t.settings → next.ended ≡ t.ended → next.waits ≡ t.waits → next.awaiting ≡ t.awaiting
-        → next.going ≡ t.going → next.asks ≡ t.asks → (more : List MainEvent) → next.main ≡ t.main ++ more → flat_map starting more ≡ [] → next.sched ≡ t.sched → next.nodes ≡ t.nodes → next.book ≡ t.book → AuxInvariant g next
-    talked_sides g next rows same tree settings ended waits awaiting going asks more main starts sched nodes book =
-        let first_is : g.first ≡ h.first = ap (λ (p : FixedParts). p.first) same in
-        let retired : g.apps.retired ≡ h.apps.retired = ap (λ (p : FixedParts). p.retired) same in
-        let releases : g.endings.releases ≡ h.endings.releases = ap (λ (p : FixedParts). p.releases) same in
-        let submitted : g.apps.submitted ≡ h.apps.submitted = ap (λ (p : FixedParts). p.submitted) same in
-        record {
-          completes = completes_still t next sides.completes tree ended settings (retire_more t next more main);
-          apt = rw tree sides.apt;
-          silent = rw rows (each_with f attempt.app t.rows lives.row lives.found (λ (r : AppRow). IsSilent r.current r.dialogue) (λ e. silent) sides.silent);
-          firsts = rw rows (firsts_same h g t next (with_row f attempt.app t.rows) first_is (firsts_with (abstract_scene h t) f attempt.app t.rows first sides.firsts));
-          none_first = rw (first_is, retired, rows) (none_first_with h.first h.apps.retired f attempt.app t.rows sides.none_first);
-          present = rw nodes sides.present;
-          others = rw (asks, rows) (λ q some. goes_with_row f attempt.app t.rows lives.row lives.found q.number q.app (talked_goes q.number) (sides.others q some));
-          single = rw asks sides.single;
-          waits = rw (first_is, waits) sides.waits;
-          served = rw (releases, sched) sides.served;
-          offers = rw (nodes, book) sides.offers;
-          lists = record { order = rw submitted (more_main h t next more main starts awaiting sides.lists); going = rw (going, submitted, tree) sides.lists.going };
-          finishes = rw (awaiting, rows) (λ q. sides.finishes q ∙ sym (finishes_with_row f attempt.app t.rows lives.row lives.found q (λ e. talked_finishes q)));
-          unfinished = rw rows (each_with f attempt.app t.rows lives.row lives.found (λ (r : AppRow). HasNotFinished r.current) talked_unfinished sides.unfinished);
-          retired = rw (retired, rows) (retired_with h.apps.retired f attempt.app t.rows sides.retired);
-        }
+    talked_sides : (g : History) (next : Tables) → next.rows ≡ with_row f attempt.app t.rows → fixed_parts g ≡ fixed_parts h → (more : List MainEvent) → next.main ≡ t.main ++ more → flat_map starting more ≡ []
+        → next ≡ record t { rows = next.rows; main = next.main; served = next.served } → AuxInvariant g next
+    talked_sides g next rows same more main starts rest =
+        subst (AuxInvariant g) (sym rest)
+        (aux_of h g t (record t { rows = next.rows; main = next.main; served = next.served }) h.apps.retired h.apps.submitted h.endings.releases same
+        (record {
+          rows = rw rows (parts_with f attempt.app t.rows first talked_stays (rows_of h t sides));
+          completes = completes_still t (record t { rows = next.rows; main = next.main; served = next.served }) sides.completes refl refl refl (retire_more t (record t { rows = next.rows; main = next.main; served = next.served }) more main);
+          apt = sides.apt;
+          present = sides.present;
+          others = rw rows (λ q some. goes_with_row f attempt.app t.rows lives.row lives.found q.number q.app (talked_goes q.number) (sides.others q some));
+          single = sides.single;
+          waits = sides.waits;
+          served = sides.served;
+          offers = sides.offers;
+          order = more_main h t (record t { rows = next.rows; main = next.main; served = next.served }) more main starts refl sides.lists;
+          going = sides.lists.going;
+          finishes = rw rows (λ q. sides.finishes q ∙ sym (finishes_with_row f attempt.app t.rows lives.row lives.found q (λ e. talked_finishes q)));
+        }))
 
   -- what an attempt asks for after many asks, and what others do
   other_many : (attempt q : AttemptId) → is_attempt attempt q ≡ false → (new : List Ask) (table : List AsksOf) → attempt_asks (all_asked attempt table new) q ≡ attempt_asks table q
@@ -523,14 +471,7 @@ module _ (h : History) (t : Tables) (sides : AuxInvariant h t) (n : ℕ) where
       is_more [] e = absurd e
       is_more (x ∷ releases) (inl e) = inl e
       is_more (x ∷ releases) (inr e) = inr (is_more releases e)
-  served_more releases one (scheds.AppAdded id ∷ xs) e = served_more releases one xs e
-  served_more releases one (scheds.AttemptRecovered id ∷ xs) e = served_more releases one xs e
-  served_more releases one (scheds.AttemptAdded id ∷ xs) e = served_more releases one xs e
-  served_more releases one (scheds.AttemptRemoved id ∷ xs) e = served_more releases one xs e
-  served_more releases one (scheds.NodeAdded node turn ∷ xs) e = served_more releases one xs e
-  served_more releases one (scheds.NodeDone node done ∷ xs) e = served_more releases one xs e
-  served_more releases one (scheds.NodeUpdate node ∷ xs) e = served_more releases one xs e
-  served_more releases one (scheds.NodeLost node ∷ xs) e = served_more releases one xs e
+  served_more releases one (_ ∷ xs) e = served_more releases one xs e
 
   served_last : (one : Release) (releases : List Release) → IsServedRelease one (releases ++ one ∷ [])
   served_last one [] = inl refl
@@ -548,8 +489,8 @@ module _ (h : History) (t : Tables) (sides : AuxInvariant h t) (n : ℕ) where
     abbrev allocated_now : Tables
     allocated_now = record (allocated_with attempt id asks release reply t) { served = n }
 
-    allocated_silent : (row : AppRow) → IsSilent row.current row.dialogue → IsSilent row.current (with_answer (id + 1) reply row.dialogue)
-    allocated_silent row e = by row.current e
+    allocated_stays : (row : AppRow) → RowStays row (told_so row)
+    allocated_stays row = record { silent = by row.current; unfinished = λ u. u }
       where
         by : (o : Option Current) → IsSilent o row.dialogue → IsSilent o (with_answer (id + 1) reply row.dialogue)
         by None e = tt
@@ -579,54 +520,41 @@ module _ (h : History) (t : Tables) (sides : AuxInvariant h t) (n : ℕ) where
 
     allocated_sides : (g : History) → fixed_parts g ≡ record (fixed_parts h) { releases = h.endings.releases ++ record { attempt = attempt; list = release } ∷ [] } → AuxInvariant g allocated_now
     allocated_sides g same =
-        let first : g.first ≡ h.first = ap (λ (p : FixedParts). p.first) same in
-        let retired : g.apps.retired ≡ h.apps.retired = ap (λ (p : FixedParts). p.retired) same in
-        let releases : g.endings.releases ≡ h.endings.releases ++ record { attempt = attempt; list = release } ∷ [] = ap (λ (p : FixedParts). p.releases) same in
-        let submitted : g.apps.submitted ≡ h.apps.submitted = ap (λ (p : FixedParts). p.submitted) same in
-        record {
+        aux_of h g t allocated_now h.apps.retired h.apps.submitted (h.endings.releases ++ record { attempt = attempt; list = release } ∷ []) same
+        (record {
+          rows = parts_with told_so attempt.app t.rows (λ r. refl) (λ row found. allocated_stays row) (rows_of h t sides);
           completes = completes_still t allocated_now sides.completes refl refl refl (λ some. some);
           apt = sides.apt;
-          silent = every_with (λ (r : AppRow). IsSilent r.current r.dialogue) told_so attempt.app t.rows allocated_silent sides.silent;
-          firsts = firsts_same h g t allocated_now allocated_now.rows first (firsts_with (abstract_scene h t) told_so attempt.app t.rows (λ r. refl) sides.firsts);
-          none_first = rw (first, retired) (none_first_with h.first h.apps.retired told_so attempt.app t.rows sides.none_first);
           present = sides.present;
           others = allocated_others;
           single = allocated_single;
-          waits = rw first sides.waits;
-          served = rw releases
-              (served_append (h.endings.releases ++ record { attempt = attempt; list = release } ∷ []) t.sched (release_events attempt release)
-              (served_more h.endings.releases (record { attempt = attempt; list = release }) t.sched sides.served) (release_served attempt release));
+          waits = sides.waits;
+          served = served_append (h.endings.releases ++ record { attempt = attempt; list = release } ∷ []) t.sched (release_events attempt release)
+              (served_more h.endings.releases (record { attempt = attempt; list = release }) t.sched sides.served) (release_served attempt release);
           offers = sides.offers;
-          lists = record { order = rw submitted sides.lists.order; going = rw submitted sides.lists.going };
+          order = sides.lists.order;
+          going = sides.lists.going;
           finishes = λ q. sides.finishes q ∙ sym (same_with (finishes_by q) told_so attempt.app q.app t.rows (λ row. refl));
-          unfinished = every_with (λ (r : AppRow). HasNotFinished r.current) told_so attempt.app t.rows (λ row u. u) sides.unfinished;
-          retired = rw retired (retired_with h.apps.retired told_so attempt.app t.rows sides.retired);
-        }
+        })
 
   -- more was released, by an allocation that was answered before
   released_sides : (g : History) (one : Release) → fixed_parts g ≡ record (fixed_parts h) { releases = h.endings.releases ++ one ∷ [] } → AuxInvariant g (record t { served = n })
   released_sides g one same =
-      let first : g.first ≡ h.first = ap (λ (p : FixedParts). p.first) same in
-      let retired : g.apps.retired ≡ h.apps.retired = ap (λ (p : FixedParts). p.retired) same in
-      let releases : g.endings.releases ≡ h.endings.releases ++ one ∷ [] = ap (λ (p : FixedParts). p.releases) same in
-      let submitted : g.apps.submitted ≡ h.apps.submitted = ap (λ (p : FixedParts). p.submitted) same in
-      record {
+      aux_of h g t (record t { served = n }) h.apps.retired h.apps.submitted (h.endings.releases ++ one ∷ []) same
+      (record {
+        rows = rows_of h t sides;
         completes = completes_still t (record t { served = n }) sides.completes refl refl refl (λ some. some);
         apt = sides.apt;
-        silent = sides.silent;
-        firsts = firsts_same h g t (record t { served = n }) t.rows first sides.firsts;
-        none_first = rw (first, retired) sides.none_first;
         present = sides.present;
         others = sides.others;
         single = sides.single;
-        waits = rw first sides.waits;
-        served = rw releases (served_more h.endings.releases one t.sched sides.served);
+        waits = sides.waits;
+        served = served_more h.endings.releases one t.sched sides.served;
         offers = sides.offers;
-        lists = record { order = rw submitted sides.lists.order; going = rw submitted sides.lists.going };
+        order = sides.lists.order;
+        going = sides.lists.going;
         finishes = sides.finishes;
-        unfinished = sides.unfinished;
-        retired = rw retired sides.retired;
-      }
+      })
 
   -- what a master is answered
   module _ (w : CoreInvariant t.settings h t) (live : (attempt : AttemptId) → is_live (abstract_scene h t) attempt ≡ lives_by attempt (row_of t.rows attempt.app)) (attempt : AttemptId) where
@@ -646,45 +574,27 @@ module _ (h : History) (t : Tables) (sides : AuxInvariant h t) (n : ℕ) where
     quiet_master ask reply own is s =
         subst (λ (next : Tables). AuxInvariant s.next (record next { served = n })) own (idle_sides s.next (parts_of ask reply (fixed_parts h) is s) t.given t.clock)
 
-    if_live : (b c : Bool) → replies.MasterRegistered ≡ (if not b then replies.Gone else (if c then replies.Already else replies.MasterRegistered)) → b ≡ true
-    if_live true c e = refl
-    if_live false c e = cc
-
-    register_master : (reply : Reply) → reply ≡ register_reply (abstract_scene h t) attempt → MasterSides Register reply
-    register_master replies.MasterRegistered is s =
-        let alive : is_live (abstract_scene h t) attempt ≡ true = if_live (is_live (abstract_scene h t) attempt) (has_registered (abstract_scene h t) attempt) is in
-        let lives = lives_found attempt (row_of t.rows attempt.app) refl (sym (live attempt) ∙ alive) in
+    register_comes : (reply : Reply) (next : Tables) → MessageOutcome t (messages.Master attempt Register) reply next → reply ≡ register_reply (abstract_scene h t) attempt → (g : History) → fixed_parts g ≡ fixed_parts h → AuxInvariant g (record next { served = n })
+    register_comes reply next (comes.idles message one) is g same = idle_sides g same t.given t.clock
+    register_comes reply next (comes.registers one answer so) is g same =
+        let lives = lives_found attempt (row_of t.rows attempt.app) refl (sym (live attempt) ∙ registers_live (abstract_scene h t) attempt answer so is) in
         let c = lives.is in
         let alive_now = register_lives lives.current.state lives.alive in
         let issued = alive_issued (next_attempt_state lives.current.state attempt_events.Register) alive_now in
         let d : Current = record lives.current { state = next_attempt_state lives.current.state attempt_events.Register; registered = true } in
-        talked_sides attempt lives (registered_row (dialogue_begun replies.MasterRegistered)) (λ r. refl) d (rw c refl) refl alive_now refl (rw c (λ e. absurd (let x = rw issued at e in cc))) s.next
-        (record (registered attempt replies.MasterRegistered t) { served = n }) refl (parts_of Register replies.MasterRegistered (fixed_parts h) refl s) refl refl refl refl refl refl refl [] (sym (append-nil t.main)) refl refl refl refl
-    register_master reply is s = quiet_master Register reply refl refl s
+        talked_sides attempt lives (registered_row (dialogue_begun answer)) (λ r. refl) d (rw c refl) refl alive_now refl (rw c (λ e. absurd (let x = rw issued at e in cc))) g
+        (record next { served = n }) refl same [] (sym (append-nil t.main)) refl refl
 
-    finish_parts : (text : List ℕ) → life_parts (life_after_master now_scene attempt (Finish text) replies.Finishing) ≡ fixed_parts h
-    finish_parts text = by (is_registered now_scene attempt) refl
-      where
-        by : (b : Bool) → is_registered now_scene attempt ≡ b → life_parts (life_after_master now_scene attempt (Finish text) replies.Finishing) ≡ fixed_parts h
-        by true e = rw e refl
-        by false e = rw e refl
-
-    finish_master : (text : List ℕ) (reply : Reply) → MasterSides (Finish text) reply
-    finish_master text replies.Finishing = by (talks_on (spoken_by attempt (row_of t.rows attempt.app))) refl
-      where
-        by : (b : Bool) → talks_on (spoken_by attempt (row_of t.rows attempt.app)) ≡ b → MasterSides (Finish text) replies.Finishing
-        by false e = quiet_master (Finish text) replies.Finishing (rw e refl) (finish_parts text)
-        by true e = λ s.
-            let lives = spoken_lives attempt talks_on refl e in
-            let c = lives.is in
-            let alive_now = finish_lives lives.current.state lives.alive in
-            let issued = alive_issued (next_attempt_state lives.current.state attempt_events.Finish) alive_now in
-            let d : Current = record lives.current { state = next_attempt_state lives.current.state attempt_events.Finish } in
-            let done : AuxInvariant s.next (record (said attempt text t) { served = n }) =
-            talked_sides attempt lives (said_row (with_text text)) (λ r. refl) d (rw c refl) refl alive_now refl (rw c (λ u. absurd (let x = rw issued at u in cc))) s.next
-            (record (said attempt text t) { served = n }) refl (parts_of (Finish text) replies.Finishing (fixed_parts h) (finish_parts text) s) refl refl refl refl refl refl refl (mains.AttemptFinish attempt ∷ []) refl refl refl refl refl in
-            rw e done
-    finish_master text reply = quiet_master (Finish text) reply refl refl
+    finish_comes : (text : List ℕ) (reply : Reply) (next : Tables) → MessageOutcome t (messages.Master attempt (Finish text)) reply next → (g : History) → fixed_parts g ≡ fixed_parts h → AuxInvariant g (record next { served = n })
+    finish_comes text reply next (comes.idles message one) g same = idle_sides g same t.given t.clock
+    finish_comes text reply next (comes.finishes one words goes) g same =
+        let lives = spoken_lives attempt talks_on refl goes in
+        let c = lives.is in
+        let alive_now = finish_lives lives.current.state lives.alive in
+        let issued = alive_issued (next_attempt_state lives.current.state attempt_events.Finish) alive_now in
+        let d : Current = record lives.current { state = next_attempt_state lives.current.state attempt_events.Finish } in
+        talked_sides attempt lives (said_row (with_text text)) (λ r. refl) d (rw c refl) refl alive_now refl (rw c (λ u. absurd (let x = rw issued at u in cc))) g
+        (record next { served = n }) refl same (mains.AttemptFinish attempt ∷ []) refl refl refl
 
     -- where the tables have it that an allocation is new, so has the judge
     dialogue_new : (id : ℕ) (o : Option Dialogue) (p : Option MasterState) → option_map bare_dialogue o ≡ option_map plain_dialogue p → is_new_to id o ≡ true → is_some_and (λ (master : MasterState). id == master.last_id) p ≡ true
@@ -737,6 +647,8 @@ module _ (h : History) (t : Tables) (sides : AuxInvariant h t) (n : ℕ) where
         by (ask ∷ asks) all = (let one = all.0.priority.0 in grind (arith, nat_tests), by asks all.1)
 
     pub master_sides : (ask : MasterAsk) (reply : Reply) → IsMasterAsk ask → reply ≡ master_reply t.settings (abstract_scene h t) attempt ask → MasterSides ask reply
-    master_sides Register reply in_range is = register_master reply is
-    master_sides (Finish text) reply in_range is = finish_master text reply
+    master_sides Register reply in_range is = λ s.
+        register_comes reply (after_master attempt Register reply t) (message_outcome t (messages.Master attempt Register) reply) is s.next (same_parts senders.Master (messages.Master attempt Register) reply (after_master attempt Register reply t) tt s)
+    master_sides (Finish text) reply in_range is = λ s.
+        finish_comes text reply (after_master attempt (Finish text) reply t) (message_outcome t (messages.Master attempt (Finish text)) reply) s.next (same_parts senders.Master (messages.Master attempt (Finish text)) reply (after_master attempt (Finish text) reply t) tt s)
     master_sides (Allocate id asks release) reply in_range is = allocate_master id asks release reply (ordinary_asks asks in_range.1.each)

@@ -1,7 +1,6 @@
 -- What holds of each row holds after one changes: whether it is there, whether its attempt goes on, and what it says of the end that awaits.
-use Rattle.rm_invariant.proofs.Common.{◌≡◌, ℕ, List, ◌∷◌, [], ◌++◌, Bool, true, false, ◌&&◌, ◌||◌, Option, None, Some, fold, refl, sym, ◌∙◌, ap, subst, arith, list_any, list_any-append, AppId, AttemptId, Op, is_app, Records, is_finished_op, AttemptState, is_alive, AppRow, Current, changed, killed_state, row_of, with_row, finishes_by, is_ending, SchedEvent, bytes_eq, and_parts, Closing, Grant, ContainerId, same_app, same_text, NodeRow, closed, closed_in, closed_one, node_row, with_node, rows_after_grant, other_row, own_row}
+use Rattle.rm_invariant.proofs.Common.{◌≡◌, ℕ, List, ◌∷◌, [], ◌++◌, Bool, true, false, ◌||◌, Option, None, Some, refl, sym, ◌∙◌, ap, subst, arith, list_any, list_any-append, AppId, AttemptId, Op, is_app, Records, is_finished_op, AttemptState, is_alive, AppRow, Current, killed_state, row_of, with_row, finishes_by, is_ending, SchedEvent, bytes_eq, and_parts, same_app, same_text, NodeRow, node_row, with_node, other_row, own_row}
 use Rattle.std.proofs.Common.{◌==◌, option_map}
-use Rattle.rm_states.specs.declared.attempt.states.AttemptState.TheVariants as attempts
 use Rattle.rm_states.specs.declared.attempt.states.AttemptEvent.TheVariants as attempt_events
 use Rattle.rm_states.specs.attempt.Table.{next_attempt_state as next_attempt_state}
 use Rattle.rm_invariant.specs.events.MainFacts.{is_unissued}
@@ -10,9 +9,7 @@ use Rattle.rm_invariant.proofs.apps.Found.{retired_changed, row_changed}
 use Rattle.rm_model.specs.State.{Release}
 use Rattle.rm_tables.specs.declared.events.SchedEvent.TheVariants as scheds
 use Rattle.rm_invariant.specs.events.Here.{AreServed}
-use Rattle.rm_tables.specs.declared.changes.AttemptChange.TheVariants as of_attempt
-use Rattle.rm_tables.specs.declared.changes.RowChange.TheVariants as of_app
-use Rattle.rm_invariant.specs.auxiliary.Invariant.{NoneFirst, RetiredKnown, goes_by, goes_numbered, end_is_issued}
+use Rattle.rm_invariant.specs.auxiliary.Invariant.{NoneFirst, RetiredKnown, goes_by, goes_numbered}
 
 -- an application is without a row after a change only where it was before
 pub still_none : (f : AppRow → AppRow) (id q : AppId) (rows : List (AppId × Option AppRow)) → row_of (with_row f id rows) q ≡ None → row_of rows q ≡ None
@@ -35,18 +32,6 @@ module _ (f : AppRow → AppRow) (id : AppId) (rows : List (AppId × Option AppR
       let also : row_of rows id ≡ Some one = ap (row_of rows) (same_app id q e) ∙ there in
       let x : Some row ≡ Some one = sym found ∙ also in
       cc
-
-  -- what holds of each row
-  pub each_with : (P : AppRow → Type 0) → (P row → P (f row)) → ((q : AppId) (one : AppRow) → row_of rows q ≡ Some one → P one) → (q : AppId) (one : AppRow) → row_of (with_row f id rows) q ≡ Some one → P one
-  each_with P keeps before q one there = by (is_app id q) refl (row_of rows q) refl (sym (row_changed f id q rows) ∙ there)
-    where
-      by : (b : Bool) → is_app id q ≡ b → (o : Option AppRow) → row_of rows q ≡ o → changed_if b f o ≡ Some one → P one
-      by true e None is x = cc
-      by true e (Some was) is x =
-          let own : row ≡ was = same_row q was e is in
-          let now : f was ≡ one = cc in
-          subst P now (subst (λ (r : AppRow). P (f r)) own (keeps (before id row found)))
-      by false e o is x = before q one (is ∙ x)
 
   -- a number that a row goes by
   pub goes_with_row : (n : ℕ) (q : AppId) → (goes_by n (Some row) ≡ true → goes_by n (Some (f row)) ≡ true) → goes_by n (row_of rows q) ≡ true → goes_by n (row_of (with_row f id rows) q) ≡ true
@@ -79,15 +64,7 @@ goes_on n c d number state goes =
     rw (a, b) refl
 
 pub killed_goes : (s : AttemptState) → (is_alive s || is_ending s) ≡ true → (is_alive (killed_state s) || is_ending (killed_state s)) ≡ true
-killed_goes attempts.Scheduled e = e
-killed_goes attempts.Granted e = e
-killed_goes attempts.Saving e = e
-killed_goes attempts.Live e = refl
-killed_goes attempts.Registered e = refl
-killed_goes attempts.Finishing e = refl
-killed_goes attempts.Ending e = e
-killed_goes attempts.Ended e = e
-killed_goes attempts.Dropped e = e
+killed_goes s e = grind arith
 
 -- what events do to an attempt that lives, goes on or isn't over
 pub register_lives : (s : AttemptState) → is_alive s ≡ true → is_alive (next_attempt_state s attempt_events.Register) ≡ true
@@ -102,9 +79,6 @@ alive_issued s e = grind arith
 pub kept_goes : (s : AttemptState) → (is_alive s || is_ending s) ≡ true → (is_alive (next_attempt_state s attempt_events.Kept) || is_ending (next_attempt_state s attempt_events.Kept)) ≡ true
 kept_goes s e = grind arith
 
-pub over_before : (s : AttemptState) → end_is_issued (next_attempt_state s attempt_events.EndKept) ≡ false → end_is_issued s ≡ false
-over_before s e = grind arith
-
 -- no end that awaits is FINISHED of one more operation than before, where that isn't such an end
 pub none_finished : (q : AttemptId) (op : Op) (awaiting : List Op) → is_finished_op q op ≡ false → list_any (is_finished_op q) (awaiting ++ op ∷ []) ≡ list_any (is_finished_op q) awaiting
 none_finished q op awaiting none = list_any-append (is_finished_op q) awaiting (op ∷ []) ∙ rw none (by (list_any (is_finished_op q) awaiting))
@@ -117,14 +91,7 @@ none_finished q op awaiting none = list_any-append (is_finished_op q) awaiting (
 pub served_append : (releases : List Release) (xs ys : List SchedEvent) → AreServed releases xs → AreServed releases ys → AreServed releases (xs ++ ys)
 served_append releases [] ys before more = more
 served_append releases (scheds.Release attempt list ∷ xs) ys before more = (before.0, served_append releases xs ys before.1 more)
-served_append releases (scheds.AppAdded id ∷ xs) ys before more = served_append releases xs ys before more
-served_append releases (scheds.AttemptRecovered id ∷ xs) ys before more = served_append releases xs ys before more
-served_append releases (scheds.AttemptAdded id ∷ xs) ys before more = served_append releases xs ys before more
-served_append releases (scheds.AttemptRemoved id ∷ xs) ys before more = served_append releases xs ys before more
-served_append releases (scheds.NodeAdded node turn ∷ xs) ys before more = served_append releases xs ys before more
-served_append releases (scheds.NodeDone node done ∷ xs) ys before more = served_append releases xs ys before more
-served_append releases (scheds.NodeUpdate node ∷ xs) ys before more = served_append releases xs ys before more
-served_append releases (scheds.NodeLost node ∷ xs) ys before more = served_append releases xs ys before more
+served_append releases (_ ∷ xs) ys before more = served_append releases xs ys before more
 
 -- a node is there after a change of one exactly where it was
 pub still_node : (f : NodeRow → NodeRow) (name q : List ℕ) (nodes : List (List ℕ × NodeRow)) → node_row (with_node f name nodes) q ≡ None → node_row nodes q ≡ None
@@ -140,28 +107,6 @@ still_node f name q nodes e = by (bytes_eq name q) refl
         let here : node_row (with_node f name nodes) name ≡ None = subst (λ (n : List ℕ). node_row (with_node f name nodes) n ≡ None) (sym is) e in
         subst (λ (n : List ℕ). node_row nodes n ≡ None) is (mapped (node_row nodes name) (sym (own_row f name nodes) ∙ here))
     by false apart = sym (other_row f name q nodes apart) ∙ e
-
--- what each change of a row keeps is kept where endings are to be told, and where containers are granted
-pub closed_keeps : (R : List (AppId × Option AppRow) → Type 0) → ((one : Closing) (rows : List (AppId × Option AppRow)) → R rows → R (with_row (closed one) one.id.attempt.app rows))
-    → (closings : List Closing) (rows : List (AppId × Option AppRow)) → R rows → R (closed_in rows closings)
-closed_keeps R keeps [] rows before = before
-closed_keeps R keeps (one ∷ closings) rows before = closed_keeps R keeps closings (closed_one rows one) (keeps one rows before)
-
-pub granted_keeps : (R : List (AppId × Option AppRow) → Type 0)
-    → ((id : ContainerId) (rows : List (AppId × Option AppRow)) → R rows → R (with_row (changed (of_app.OfAttempt (of_attempt.Grant id))) id.attempt.app rows))
-    → (grants : List Grant) (rows : List (AppId × Option AppRow)) → R rows → R (fold rows_after_grant rows grants)
-granted_keeps R keeps [] rows before = before
-granted_keeps R keeps (grant ∷ grants) rows before = granted_keeps R keeps grants (rows_after_grant rows grant) (keeps grant.id rows before)
-
--- what holds of each row, whichever changes
-pub every_with : (P : AppRow → Type 0) (f : AppRow → AppRow) (id : AppId) (rows : List (AppId × Option AppRow)) → ((row : AppRow) → P row → P (f row)) → ((q : AppId) (one : AppRow) → row_of rows q ≡ Some one → P one)
-    → (q : AppId) (one : AppRow) → row_of (with_row f id rows) q ≡ Some one → P one
-every_with P f id rows keeps before q one there = by (is_app id q) (row_of rows q) refl (sym (row_changed f id q rows) ∙ there)
-  where
-    by : (b : Bool) (o : Option AppRow) → row_of rows q ≡ o → changed_if b f o ≡ Some one → P one
-    by true None is x = cc
-    by true (Some was) is x = let now : f was ≡ one = cc in subst P now (keeps was (before q was is))
-    by false o is x = before q one (is ∙ x)
 
 -- what is read off a row is read off it after a change that leaves it, whichever row changes
 pub same_with : {X : Type 0} (g : Option AppRow → X) (f : AppRow → AppRow) (id q : AppId) (rows : List (AppId × Option AppRow)) → ((row : AppRow) → g (Some (f row)) ≡ g (Some row)) → g (row_of (with_row f id rows) q) ≡ g (row_of rows q)

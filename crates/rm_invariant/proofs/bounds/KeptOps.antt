@@ -2,7 +2,6 @@
 use Rattle.rm_invariant.proofs.Common.{◌≡◌, ◌-◌, ℕ, List, [], ◌∷◌, ◌++◌, Bool, true, false, Option, None, Some, drop, refl, sym, subst, arith, if◌then◌else◌, AppId, AttemptId, How, Op, AppRecord, AttemptRecord, IsAppId, IsOperation, last_attempt, AttemptState, AsksOf, without_asks_of, MainEvent, SchedEvent, AppRow, Current, Tables, changed, dropped_at, dropped_by, dropped_of, kept, handed_out, opening_main, opening_sched, sched_by, sched_of, row_of, with_row, without_row}
 use Rattle.std.proofs.Common.{count_by, is_some}
 use Rattle.rm_types.specs.declared.operations.Op.TheVariants as ops
-use Rattle.rm_states.specs.declared.attempt.states.AttemptState.TheVariants as attempts
 use Rattle.rm_tables.specs.declared.changes.AttemptChange.TheVariants as of_attempt
 use Rattle.rm_tables.specs.declared.changes.RowChange.TheVariants as of_app
 use Rattle.rm_tables.specs.declared.events.MainEvent.TheVariants as mains
@@ -28,15 +27,7 @@ none_dropped None id = refl
 none_dropped (Some row) id = by row.current
   where
     at : (s : AttemptState) (one : AttemptId) → count_by is_update (dropped_at s one) ≡ 0
-    at attempts.Scheduled one = refl
-    at attempts.Granted one = refl
-    at attempts.Saving one = refl
-    at attempts.Live one = refl
-    at attempts.Registered one = refl
-    at attempts.Finishing one = refl
-    at attempts.Ending one = refl
-    at attempts.Ended one = refl
-    at attempts.Dropped one = refl
+    at s one = grind arith
 
     by : (o : Option Current) → count_by is_update (dropped_of o id) ≡ 0
     by None = refl

@@ -210,13 +210,7 @@ next_few settings h t w limits id row current at going ended none = by row.state
     by apps.Accepted e g says = active says.3
     by apps.Running e g says = active says.3
     by apps.Killing e g says = active says.5
-    by apps.New e g says = cc
-    by apps.NewSaving e g says = cc
-    by apps.Submitted e g says = cc
-    by apps.FinalSaving e g says = cc
-    by apps.Finished e g says = cc
-    by apps.Failed e g says = cc
-    by apps.Killed e g says = cc
+    by _ e g says = cc
 
 -- EVENTS
 

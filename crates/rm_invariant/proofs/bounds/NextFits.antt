@@ -59,13 +59,11 @@ remove_fits settings q (Some row) v good = by row.state good.1
     by apps.New says = absurd (let n = says.2 in omega (arith, n))
     by apps.NewSaving says = absurd (let a = says.2 in let n = says.3 in omega (arith, a, n))
     by apps.Submitted says = absurd (let n = says.6 in omega (arith, n))
-    by apps.Accepted says = absurd (grind arith)
-    by apps.Running says = absurd (grind arith)
-    by apps.Killing says = absurd (grind arith)
     by apps.FinalSaving says = absurd (let a = says.3 in let n = says.4 in omega (arith, a, n))
     by apps.Finished says = ended_fits _ v.found says.0
     by apps.Failed says = ended_fits _ v.found says.0
     by apps.Killed says = ended_fits _ v.found says.0
+    by _ says = absurd (grind arith)
 
 module _ (settings : Settings) (h : History) (t : Tables) (k : AppsInvariant settings h t) where
   -- the tables without the operation, and what is said of the attempt of an operation with it

@@ -1,7 +1,6 @@
 -- The rows of nodes stay in their ranges.
-use Rattle.rm_invariant.proofs.Common.{◌≡◌, ℕ, List, [], ◌∷◌, ◌++◌, Bool, true, false, ◌⊎◌, inl, inr, Option, None, Some, refl, sym, ◌∙◌, ap, subst, if◌then◌else◌, bytes_eq, Held, ContainerId, Reply, Resource, same_text, BookOf, NodeChange, Absorb, Lose, Unlaunch, NodeRow, unlaunched_here, unlaunched_on, unlaunched, unlaunched_at, unlaunched_one, beaten_row, changed_row, node_row, ordered_row, registered_node_row, with_node, other_row, own_row, IsSize, IsList, IsHeld}
+use Rattle.rm_invariant.proofs.Common.{◌≡◌, ℕ, List, [], ◌∷◌, ◌++◌, Bool, true, false, ◌⊎◌, inl, inr, Option, None, Some, refl, sym, ◌∙◌, ap, subst, if◌then◌else◌, bytes_eq, Held, ContainerId, Reply, Resource, same_text, NodeChange, Absorb, Lose, Unlaunch, NodeRow, beaten_row, changed_row, node_row, ordered_row, registered_node_row, with_node, other_row, own_row, IsSize, IsList, IsHeld}
 use Rattle.std.proofs.Common.{option_map}
-use Rattle.rm_book.specs.Books.{book_row as book_row_of}
 use Rattle.rm_invariant.specs.bounds.InBounds.{AreNodes, IsNode}
 
 -- the row of a node changes
@@ -57,16 +56,3 @@ nodes_put name new nodes is are = record { each = λ q row found. by q row (node
     by : (q : List ℕ) (row : NodeRow) → (node_row nodes q ≡ Some row) ⊎ ((name ≡ q) × (new ≡ row)) → IsNode q row
     by q row (inl old) = are.each q row old
     by q row (inr both) = subst (IsNode q) both.1 (subst (λ (n : List ℕ). IsNode n new) both.0 is)
-
--- launches go
-pub nodes_unlaunched : (book : BookOf) (ids : List ContainerId) (nodes : List (List ℕ × NodeRow)) → AreNodes nodes → AreNodes (unlaunched book nodes ids)
-nodes_unlaunched book [] nodes are = are
-nodes_unlaunched book (id ∷ ids) nodes are = nodes_unlaunched book ids (unlaunched_one book nodes id) (by (book_row_of book id))
-  where
-    by : (o : Option _) → AreNodes (unlaunched_at o id nodes)
-    by None = are
-    by (Some row) = nodes_changed (Unlaunch id) row.node nodes are
-
-pub nodes_unlaunched_on : (name : List ℕ) (ids : List ContainerId) (nodes : List (List ℕ × NodeRow)) → AreNodes nodes → AreNodes (unlaunched_on name nodes ids)
-nodes_unlaunched_on name [] nodes are = are
-nodes_unlaunched_on name (id ∷ ids) nodes are = nodes_unlaunched_on name ids (unlaunched_here name nodes id) (nodes_changed (Unlaunch id) name nodes are)

@@ -76,65 +76,32 @@ IsChange (of_app.OfAttempt change) = IsAttemptChange change
 
 granted_is : (s : AttemptState) (container : ContainerId) (current : Current) → IsContainerId container → IsCurrent current → IsCurrent (granted_at s container current)
 granted_is attempts.Scheduled container current is own = record { number = own.number; master = is }
-granted_is attempts.Granted container current is own = record { number = own.number; master = own.master }
-granted_is attempts.Saving container current is own = record { number = own.number; master = own.master }
-granted_is attempts.Live container current is own = record { number = own.number; master = own.master }
-granted_is attempts.Registered container current is own = record { number = own.number; master = own.master }
-granted_is attempts.Finishing container current is own = record { number = own.number; master = own.master }
-granted_is attempts.Ending container current is own = record { number = own.number; master = own.master }
-granted_is attempts.Ended container current is own = record { number = own.number; master = own.master }
-granted_is attempts.Dropped container current is own = record { number = own.number; master = own.master }
+granted_is _ container current is own = record { number = own.number; master = own.master }
 
 attempt_is : (change : AttemptChange) (current : Current) → IsAttemptChange change → IsCurrent current → IsCurrent (attempt_after change current)
 attempt_is (of_attempt.Grant container) current is own = granted_is current.state container current is own
 attempt_is of_attempt.Requeue current is own = record { number = own.number; master = tt }
-attempt_is of_attempt.Issue current is own = record { number = own.number; master = own.master }
-attempt_is of_attempt.Lose current is own = record { number = own.number; master = own.master }
-attempt_is of_attempt.Keep current is own = record { number = own.number; master = own.master }
-attempt_is of_attempt.Finish current is own = record { number = own.number; master = own.master }
-attempt_is (of_attempt.End how) current is own = record { number = own.number; master = own.master }
-attempt_is (of_attempt.KeepEnd how) current is own = record { number = own.number; master = own.master }
+attempt_is _ current is own = record { number = own.number; master = own.master }
 
 current_is : (change : RowChange) (o : Option Current) → IsChange change → IfThere IsCurrent o → IfThere IsCurrent (current_after change o)
 current_is (of_app.Schedule number) o is own = record { number = is; master = tt }
-current_is of_app.Issue None is own = tt
 current_is of_app.Issue (Some current) is own = own
-current_is of_app.Keep None is own = tt
 current_is of_app.Keep (Some current) is own = own
-current_is of_app.Wish None is own = tt
 current_is of_app.Wish (Some current) is own = own
-current_is of_app.Kill None is own = tt
 current_is of_app.Kill (Some current) is own = record { number = own.number; master = own.master }
-current_is of_app.Register None is own = tt
 current_is of_app.Register (Some current) is own = record { number = own.number; master = own.master }
-current_is of_app.End None is own = tt
 current_is of_app.End (Some current) is own = record { number = own.number; master = own.master }
-current_is (of_app.KeepEnd how) None is own = tt
 current_is (of_app.KeepEnd how) (Some current) is own = own
-current_is (of_app.OfAttempt change) None is own = tt
 current_is (of_app.OfAttempt change) (Some current) is own = attempt_is change current is own
+current_is _ None is own = tt
 
 pending_is : (change : RowChange) (o : Option Submission) → IfThere IsSubmission o → IfThere IsSubmission (pending_after change o)
 pending_is of_app.Keep o is = tt
-pending_is of_app.Issue o is = is
-pending_is of_app.Wish o is = is
-pending_is of_app.Kill o is = is
-pending_is (of_app.Schedule number) o is = is
-pending_is of_app.Register o is = is
-pending_is of_app.End o is = is
-pending_is (of_app.KeepEnd how) o is = is
-pending_is (of_app.OfAttempt change) o is = is
+pending_is _ o is = is
 
 said_is : (change : RowChange) (o : Option Dialogue) → IfThere (IsText Note) (finishing_in o) → IfThere (IsText Note) (finishing_in (dialogue_after change o))
 said_is (of_app.Schedule number) o is = tt
-said_is of_app.Keep o is = is
-said_is of_app.Issue o is = is
-said_is of_app.Wish o is = is
-said_is of_app.Kill o is = is
-said_is of_app.Register o is = is
-said_is of_app.End o is = is
-said_is (of_app.KeepEnd how) o is = is
-said_is (of_app.OfAttempt change) o is = is
+said_is _ o is = is
 
 -- a row stays in its range by it
 pub changed_is : (change : RowChange) (id : AppId) (row : AppRow) → IsChange change → IsRow id row → IsRow id (changed change row)
@@ -173,13 +140,7 @@ none_granted false n = omega arith
 
 attempt_less : (change : AttemptChange) (current : Current) (number : ℕ) → is_no_grant_to change ≡ true → granted_to number (Some (attempt_after change current)) ≤ granted_to number (Some current)
 attempt_less (of_attempt.Grant container) current number is = cc
-attempt_less of_attempt.Requeue current number is = omega arith
-attempt_less of_attempt.Issue current number is = omega arith
-attempt_less of_attempt.Lose current number is = omega arith
-attempt_less of_attempt.Keep current number is = omega arith
-attempt_less of_attempt.Finish current number is = omega arith
-attempt_less (of_attempt.End how) current number is = omega arith
-attempt_less (of_attempt.KeepEnd how) current number is = omega arith
+attempt_less _ current number is = omega arith
 
 current_less : (change : RowChange) (o : Option Current) (number : ℕ) → is_no_grant change ≡ true → granted_to number (current_after change o) ≤ granted_to number o
 current_less (of_app.Schedule next) o number is = none_granted (next == number) (granted_to number o)

@@ -1,10 +1,9 @@
 -- Each event of the scheduler's queue keeps what is in its range.
-use Rattle.rm_invariant.proofs.Common.{◌≡◌, ◌≤◌, ◌*◌, ◌^◌, ◌-◌, ℕ, suc, ◌+◌, List, [], ◌∷◌, ◌++◌, Bool, true, false, ◌&&◌, Option, None, Some, drop, filter, fold, length, refl, sym, ◌∙◌, ap, subst, arith, if◌then◌else◌, nat_tests, Ask, Cause, Grant, AppId, AttemptId, ContainerId, Settings, Node, is_app, is_attempt, by_priority, IsContainerId, IsText, IsWithin, AttemptState, AsksOf, attempt_asks, BookOf, with_grants, book_with_taken, without_rows, once, MainEvent, SchedEvent, Absorb, NodeRow, AppRow, Current, Tables, absorbed_by, absorbed_if, taken_in, unlaunched_on, found_in, sched_popped, sched_worked, changed, granted_at, closed_in, closings_of, ended_by, losts_of, unlaunched, changed_row, is_waiting_row, node_row, with_node, granted_number, granted_to, grants_on, masters_granted, rows_after_grant, turns_in, updated_by, table_without_granted, row_of, is_on, is_released, master_asked, queued_at, queued_by, queued_with, sched_step, grants_of, History, abstract_life, IsSize}
+use Rattle.rm_invariant.proofs.Common.{◌≡◌, ◌≤◌, ◌*◌, ◌^◌, ◌-◌, ℕ, suc, ◌+◌, List, [], ◌∷◌, ◌++◌, Bool, true, false, Option, None, Some, drop, fold, length, refl, sym, ◌∙◌, ap, subst, arith, if◌then◌else◌, nat_tests, Ask, Grant, AppId, AttemptId, ContainerId, Settings, Node, is_app, is_attempt, by_priority, IsContainerId, IsText, IsWithin, AttemptState, AsksOf, attempt_asks, BookOf, with_grants, book_with_taken, without_rows, MainEvent, SchedEvent, Absorb, NodeRow, AppRow, Current, Tables, taken_in, unlaunched_on, found_in, sched_popped, sched_worked, changed, granted_at, closed_in, closings_of, losts_of, unlaunched, changed_row, node_row, with_node, granted_number, granted_to, grants_on, masters_granted, rows_after_grant, turns_in, table_without_granted, row_of, master_asked, sched_step, grants_of, History, abstract_life, IsSize, Entry, passed_with, Unlaunch}
 use Rattle.std.proofs.Common.{◌==◌, count_by}
 use Rattle.rm_types.specs.declared.containers.Cause.TheVariants as causes
 use Rattle.rm_types.specs.Ranges.{IsAttemptId}
 use Rattle.rm_states.specs.declared.attempt.states.AttemptState.TheVariants as attempts
-use Rattle.rm_book.specs.Books.{book_row as book_row_of}
 use Rattle.rm_tables.specs.declared.changes.AttemptChange.TheVariants as of_attempt
 use Rattle.rm_tables.specs.declared.changes.RowChange.TheVariants as of_app
 use Rattle.rm_tables.specs.declared.events.MainEvent.TheVariants as mains
@@ -26,9 +25,13 @@ use Rattle.rm_invariant.proofs.bounds.AskRanges.{asked_granted, asked_master, by
 use Rattle.rm_invariant.proofs.bounds.BookRanges.{IsGrant, booked_granted, booked_taken, booked_without, held_taken, offers_with}
 use Rattle.rm_invariant.proofs.bounds.FewGrants.{pass_few}
 use Rattle.rm_invariant.proofs.bounds.MainEvents.{found_is}
-use Rattle.rm_invariant.proofs.bounds.NodeRanges.{nodes_changed, nodes_unlaunched, nodes_unlaunched_on}
+use Rattle.rm_invariant.proofs.bounds.NodeRanges.{nodes_changed}
 use Rattle.rm_invariant.proofs.bounds.Passable.{can_pass}
 use Rattle.rm_invariant.proofs.bounds.RowRanges.{NoMoreGranted, grants_closed, grants_less, rows_changed, rows_closed}
+use Rattle.rm_invariant.specs.events.SchedOutcomes.{SchedOutcome}
+use Rattle.rm_invariant.specs.events.SchedOutcomes as outcomes
+use Rattle.rm_invariant.proofs.events.SchedOutcomes.{sched_outcome}
+use Rattle.rm_invariant.proofs.events.SchedShapes.{here_keeps, unlaunched_keeps}
 
 -- the tables after an event of the scheduler's queue, where these parts of them may have changed
 pub worked : (t : Tables) → InBounds t → (rows : List (AppId × Option AppRow)) (asks : List AsksOf) (book : BookOf) (nodes : List (List ℕ × NodeRow)) (main : List MainEvent) (sched : List SchedEvent)
@@ -64,59 +67,25 @@ module _ (t : Tables) (r : InBounds t) where
   same_grants : AreGrants t.rows (drop 1 t.sched) t.served
   same_grants = popped_grants t.rows t.rows t.sched t.served (λ q. omega arith) r.grants
 
-  -- nothing is done
-  quiet_ranged : InBounds (sched_popped t)
-  quiet_ranged = worked t r t.rows t.asks t.book t.nodes t.main (drop 1 t.sched) r.rows same_grants r.asks r.book r.offers r.nodes
-
-  -- the application is to be accepted
-  added_ranged : (id : AppId) → InBounds (sched_popped (record t { main = t.main ++ mains.AppAccepted id ∷ [] }))
-  added_ranged id = worked t r t.rows t.asks t.book t.nodes (t.main ++ mains.AppAccepted id ∷ []) (drop 1 t.sched) r.rows same_grants r.asks r.book r.offers r.nodes
-
-  -- a master's container is asked for
-  queued_ranged : (id : AttemptId) (o : Option AppRow) → InBounds (sched_popped (queued_by o id t).1)
-  queued_ranged id None = quiet_ranged
-  queued_ranged id (Some row) = with row.current
-    where
-      at : (s : AttemptState) (b : Bool) → InBounds (sched_popped (queued_at s b id t).1)
-      at attempts.Scheduled true =
-          worked t r t.rows (master_asked id (found_in t id.app) t.asks) t.book t.nodes t.main (drop 1 t.sched) r.rows same_grants (asked_master id (found_in t id.app) t.asks (found_is t r.tree id.app) r.asks) r.book r.offers r.nodes
-      at attempts.Scheduled false = quiet_ranged
-      at attempts.Granted b = quiet_ranged
-      at attempts.Saving b = quiet_ranged
-      at attempts.Live b = quiet_ranged
-      at attempts.Registered b = quiet_ranged
-      at attempts.Finishing b = quiet_ranged
-      at attempts.Ending b = quiet_ranged
-      at attempts.Ended b = quiet_ranged
-      at attempts.Dropped b = quiet_ranged
-
-      with : (o : Option Current) → InBounds (sched_popped (queued_with o id t).1)
-      with None = quiet_ranged
-      with (Some current) = at current.state (current.number == id.number)
-
-  -- containers end
-  ended_ranged : (cause : Cause) (ids : List ContainerId) → InBounds (sched_popped (ended_by cause ids t).1)
-  ended_ranged cause [] = quiet_ranged
-  ended_ranged cause (id ∷ ids) =
+  -- an event that is no beat
+  ranged_so : (list : List ContainerId) (e : SchedEvent) (done : Entry × Tables) → ((name : List ℕ) (row : NodeRow) → e ≡ scheds.NodeUpdate name → node_row t.nodes name ≡ Some row → InBounds (sched_popped (passed_with (grants_on name row t) t))) → SchedOutcome t list e done → InBounds (sched_worked done).1
+  ranged_so list e done update (outcomes.idles one nothing) = worked t r t.rows t.asks t.book t.nodes t.main (drop 1 t.sched) r.rows same_grants r.asks r.book r.offers r.nodes
+  ranged_so list e done update (outcomes.posts id) = worked t r t.rows t.asks t.book t.nodes (t.main ++ mains.AppAccepted id ∷ []) (drop 1 t.sched) r.rows same_grants r.asks r.book r.offers r.nodes
+  ranged_so list e done update (outcomes.asks id row current is state number) =
+      worked t r t.rows (master_asked id (found_in t id.app) t.asks) t.book t.nodes t.main (drop 1 t.sched) r.rows same_grants (asked_master id (found_in t id.app) t.asks (found_is t r.tree id.app) r.asks) r.book r.offers r.nodes
+  ranged_so list e done update (outcomes.ends one cause id ids is) =
       let closings = closings_of t.tree.apps cause (id ∷ ids) in
       worked t r (closed_in t.rows closings) t.asks (without_rows t.book (id ∷ ids)) (unlaunched t.book t.nodes (id ∷ ids)) (t.main ++ losts_of t.tree.apps (id ∷ ids)) (drop 1 t.sched)
       (rows_closed closings t.rows r.rows) (popped_grants t.rows (closed_in t.rows closings) t.sched t.served (grants_closed closings t.rows) r.grants) r.asks
-      (booked_without t.book (id ∷ ids) r.book) r.offers (nodes_unlaunched t.book (id ∷ ids) t.nodes r.nodes)
-
-  -- a report is absorbed
-  absorbed_ranged : (name : List ℕ) (turn : ℕ) (ended : List ContainerId) (o : Option NodeRow) → node_row t.nodes name ≡ o → InBounds (sched_popped (absorbed_by o name turn ended t).1)
-  absorbed_ranged name turn ended None found = quiet_ranged
-  absorbed_ranged name turn ended (Some row) found = by (is_waiting_row row.state && (row.turn == turn))
-    where
-      by : (b : Bool) → InBounds (sched_popped (absorbed_if b name row ended t).1)
-      by false = quiet_ranged
-      by true =
-          let own = r.nodes.each name row found in
-          let closings = closings_of t.tree.apps causes.Gone ended in
-          worked t r (closed_in t.rows closings) t.asks (book_with_taken t.book name row.capability (taken_in t name row) ended) (with_node (changed_row Absorb) name (unlaunched_on name t.nodes ended))
-          (t.main ++ losts_of t.tree.apps ended) (drop 1 t.sched) (rows_closed closings t.rows r.rows) (popped_grants t.rows (closed_in t.rows closings) t.sched t.served (grants_closed closings t.rows) r.grants) r.asks
-          (booked_taken t.book name row.capability (taken_in t name row) ended own.named (held_taken t name row r.book own.running) r.book) (offers_with name row.capability t.book.nodes own.named own.size r.offers)
-          (nodes_changed Absorb name (unlaunched_on name t.nodes ended) (nodes_unlaunched_on name ended t.nodes r.nodes))
+      (booked_without t.book (id ∷ ids) r.book) r.offers (unlaunched_keeps AreNodes (λ id. nodes_changed (Unlaunch id)) t.book (id ∷ ids) t.nodes r.nodes)
+  ranged_so list e done update (outcomes.absorbs name turn row found waits) =
+      let own = r.nodes.each name row found in
+      let closings = closings_of t.tree.apps causes.Gone list in
+      worked t r (closed_in t.rows closings) t.asks (book_with_taken t.book name row.capability (taken_in t name row) list) (with_node (changed_row Absorb) name (unlaunched_on name t.nodes list))
+      (t.main ++ losts_of t.tree.apps list) (drop 1 t.sched) (rows_closed closings t.rows r.rows) (popped_grants t.rows (closed_in t.rows closings) t.sched t.served (grants_closed closings t.rows) r.grants) r.asks
+      (booked_taken t.book name row.capability (taken_in t name row) list own.named (held_taken t name row r.book own.running) r.book) (offers_with name row.capability t.book.nodes own.named own.size r.offers)
+      (nodes_changed Absorb name (unlaunched_on name t.nodes list) (here_keeps AreNodes (λ id. nodes_changed (Unlaunch id)) name list t.nodes r.nodes))
+  ranged_so list e done update (outcomes.grants name row found) = update name row refl found
 
 -- A PASS
 
@@ -182,14 +151,7 @@ granted_most top (grant ∷ grants) rows seqs few q = granted_most top grants (r
 
     at : (s : AttemptState) (current : Current) (number : ℕ) → granted_to number (Some (granted_at s grant.id current)) ≤ top
     at attempts.Scheduled current number = pick (current.number == number) grant.id.seq seqs.0.1
-    at attempts.Granted current number = pick (current.number == number) grant.id.seq seqs.0.1
-    at attempts.Saving current number = pick (current.number == number) grant.id.seq seqs.0.1
-    at attempts.Live current number = pick (current.number == number) grant.id.seq seqs.0.1
-    at attempts.Registered current number = pick (current.number == number) grant.id.seq seqs.0.1
-    at attempts.Finishing current number = pick (current.number == number) grant.id.seq seqs.0.1
-    at attempts.Ending current number = pick (current.number == number) grant.id.seq seqs.0.1
-    at attempts.Ended current number = pick (current.number == number) grant.id.seq seqs.0.1
-    at attempts.Dropped current number = pick (current.number == number) grant.id.seq seqs.0.1
+    at _ current number = pick (current.number == number) grant.id.seq seqs.0.1
 
     with : (row : AppRow) (o : Option Current) → row.current ≡ o → (number : ℕ) → granted_number number (Some (changed (of_app.OfAttempt (of_attempt.Grant grant.id)) row)) ≤ top
     with row None e number = rw e (omega arith)
@@ -222,9 +184,8 @@ module _ (settings : Settings) (h : History) (t : Tables) (w : CoreInvariant set
           (asked capability turn (by_priority (attempt_asks t.asks turn.attempt)) (by_priority_asked (attempt_asks t.asks turn.attempt) (r.asks.each turn.attempt)), by capability turns)
 
   -- a pass answers a beat
-  pub update_ranged : (name : List ℕ) (rest : List SchedEvent) → t.sched ≡ scheds.NodeUpdate name ∷ rest → (o : Option NodeRow) → node_row t.nodes name ≡ o → InBounds (sched_popped (updated_by o name t).1)
-  update_ranged name rest front None found = quiet_ranged t r
-  update_ranged name rest front (Some row) found =
+  update_ranged : (name : List ℕ) (rest : List SchedEvent) → t.sched ≡ scheds.NodeUpdate name ∷ rest → (row : NodeRow) → node_row t.nodes name ≡ Some row → InBounds (sched_popped (passed_with (grants_on name row t) t))
+  update_ranged name rest front row found =
       worked t r (fold rows_after_grant t.rows grants) (fold table_without_granted t.asks grants) (with_grants t.book grants) t.nodes (t.main ++ masters_granted t.rows grants) (drop 1 t.sched)
       (rows_granted grants t.rows ids r.rows) (record { each = λ q. let most = granted_most top grants t.rows seqs all_few q in let low = room in omega (arith, most, low) })
       (asked_granted grants t.asks r.asks) (booked_granted t.book grants (grants_are name own.named grants ids (grants_sized name row) (all_on t name row)) r.book) r.offers r.nodes
@@ -279,12 +240,5 @@ module _ (settings : Settings) (h : History) (t : Tables) (w : CoreInvariant set
 
   -- each event of the scheduler's queue
   pub sched_ranged : (e : SchedEvent) (rest : List SchedEvent) → t.sched ≡ e ∷ rest → (list : List ContainerId) → InBounds (sched_worked (sched_step e list t)).1
-  sched_ranged (scheds.AppAdded id) rest front list = added_ranged t r id
-  sched_ranged (scheds.AttemptRecovered id) rest front list = quiet_ranged t r
-  sched_ranged (scheds.AttemptAdded id) rest front list = queued_ranged t r id (row_of t.rows id.app)
-  sched_ranged (scheds.AttemptRemoved id) rest front list = ended_ranged t r causes.Attempt list
-  sched_ranged (scheds.Release attempt released) rest front list = ended_ranged t r causes.Released (once (filter (is_released attempt t) released))
-  sched_ranged (scheds.NodeAdded node turn) rest front list = absorbed_ranged t r node turn list (node_row t.nodes node) refl
-  sched_ranged (scheds.NodeDone node done) rest front list = ended_ranged t r causes.Done (once (filter (λ id. is_on node (book_row_of t.book id)) done))
-  sched_ranged (scheds.NodeUpdate node) rest front list = update_ranged node rest front (node_row t.nodes node) refl
-  sched_ranged (scheds.NodeLost node) rest front list = ended_ranged t r causes.Node list
+  sched_ranged e rest front list =
+      ranged_so t r list e (sched_step e list t) (λ name row is found. update_ranged name rest (front ∙ ap (λ (one : SchedEvent). one ∷ rest) is) row found) (sched_outcome t list e)

@@ -93,10 +93,8 @@ rows_absorbed book told name capability taken ended same none =
 
 -- a node that waits
 waiting_is : (s : NodePhase) → is_waiting_row s ≡ true → s ≡ states.Waiting
-waiting_is states.Absent e = cc
 waiting_is states.Waiting e = refl
-waiting_is states.Ready e = cc
-waiting_is states.Lost e = cc
+waiting_is _ e = cc
 
 module _ (book : BookOf) (name : List ℕ) (row : NodeRow) (taken : List Held) (ended : List ContainerId) where
   abbrev now : BookOf

@@ -36,9 +36,7 @@ use Rattle.rm_invariant.proofs.events.Taken.{taken_same}
 -- a node that registered waits in the tables where it does for the judge
 waits_same : (s : NodePhase) → s ≢ states.Absent → is_waiting_row s ≡ waits_told (phase_of s)
 waits_same states.Absent some = absurd (some refl)
-waits_same states.Waiting some = refl
-waits_same states.Ready some = refl
-waits_same states.Lost some = refl
+waits_same _ some = refl
 
 -- the judge's test is the tables' one turned round
 idle_turned : (a : Bool) (m n : ℕ) → (not (m == n) || not a) ≡ not (a && (n == m))

@@ -1,10 +1,8 @@
 -- Each event of the scheduler keeps what a pass takes of the asks: that masters are asked for once and only what goes on asks for more, and
 -- that those which ask for more are current.
-use Rattle.rm_invariant.proofs.Common.{◌≡◌, ◌≤◌, ℕ, ◌&&◌, ◌||◌, List, [], ◌∷◌, ◌++◌, Bool, true, false, not, Option, None, Some, map, refl, sym, ◌∙◌, ap, subst, arith, if◌then◌else◌, list_any, false≢true, nat_tests, Ask, Cause, Closing, AppId, AttemptId, ContainerId, AppRecord, Resource, is_app, is_attempt, same_attempt, AsksOf, attempt_asks, asks_set, is_for, renewed_ask, with_asks_of, AttemptState, SchedEvent, NodeRow, AppRow, Current, Tables, absorbed_by, absorbed_if, found_in, sched_worked, closed, closed_in, closed_one, closings_of, ended_by, is_waiting_row, node_row, grants_on, updated_by, row_of, master_asked, queued_at, queued_by, queued_with, sched_step}
+use Rattle.rm_invariant.proofs.Common.{◌≡◌, ◌≤◌, ◌||◌, List, [], ◌∷◌, ◌++◌, Bool, true, false, not, Option, None, Some, map, refl, sym, ◌∙◌, ap, subst, arith, if◌then◌else◌, list_any, false≢true, nat_tests, Ask, Closing, AppId, AttemptId, ContainerId, AppRecord, Resource, is_app, is_attempt, same_attempt, AsksOf, attempt_asks, asks_set, is_for, renewed_ask, with_asks_of, SchedEvent, AppRow, Tables, found_in, sched_worked, closed, closed_in, closed_one, closings_of, grants_on, row_of, master_asked, sched_step, Entry, sched_quiet}
 use Rattle.std.proofs.Common.{◌==◌, count_by}
 use Rattle.rm_types.specs.declared.containers.Cause.TheVariants.{Gone}
-use Rattle.rm_states.specs.declared.attempt.states.AttemptState.TheVariants as attempts
-use Rattle.rm_tables.specs.declared.events.SchedEvent.TheVariants as scheds
 use Rattle.rm_invariant.specs.apps.View.{changed_if}
 use Rattle.rm_invariant.proofs.apps.Found.{row_changed}
 use Rattle.rm_invariant.specs.events.Asking.{OthersCurrent, asks_others, is_current_number, is_numbered_in}
@@ -12,6 +10,9 @@ use Rattle.rm_invariant.specs.events.Masters.{AppsOnce, MastersAskOnce, are_sing
 use Rattle.rm_invariant.proofs.events.AskedOnce.{apps_kept, once_kept, others_kept}
 use Rattle.rm_invariant.proofs.events.Answered.{other_asks, own_asks}
 use Rattle.rm_invariant.proofs.events.Waiting.{line_of}
+use Rattle.rm_invariant.specs.events.SchedOutcomes.{SchedOutcome}
+use Rattle.rm_invariant.specs.events.SchedOutcomes as outcomes
+use Rattle.rm_invariant.proofs.events.SchedOutcomes.{sched_outcome}
 
 -- what a pass takes of the tables
 abbrev pub AsksApt : Tables → Type 0
@@ -45,11 +46,6 @@ told_apt t next closings asks rows tree apt = (
       ∙ apt.1 q (sym (ap (λ (table : List AsksOf). asks_others (attempt_asks table q)) asks) ∙ some)),
   subst (λ tree. (id : AppId) → count_by (λ app. is_app app.id id) tree.apps ≤ 1) (sym tree) apt.2,
 )
-
--- containers end
-ended_apt : (cause : Cause) (list : List ContainerId) (t : Tables) → AsksApt t → AsksApt (sched_worked (ended_by cause list t)).1
-ended_apt cause [] t apt = told_apt t (sched_worked (ended_by cause [] t)).1 [] refl refl refl apt
-ended_apt cause (id ∷ ids) t apt = told_apt t (sched_worked (ended_by cause (id ∷ ids) t)).1 (closings_of t.tree.apps cause (id ∷ ids)) refl refl refl apt
 
 -- A MASTER IS ASKED FOR
 
@@ -121,47 +117,18 @@ asked_single id (Some app) table single q = by (is_attempt id q) refl
 
 -- ALL EVENTS
 
-module _ (t : Tables) (apt : AsksApt t) where
-  -- an event that has nothing to do, or posts to the manager
-  still : (next : Tables) → next.asks ≡ t.asks → next.rows ≡ t.rows → next.tree ≡ t.tree → AsksApt next
-  still next asks rows tree = told_apt t next [] asks rows tree apt
-
-  queued_apt : (id : AttemptId) (o : Option AppRow) → AsksApt (sched_worked (queued_by o id t)).1
-  queued_apt id None = still (sched_worked (queued_by None id t)).1 refl refl refl
-  queued_apt id (Some row) = with row.current
-    where
-      at : (s : AttemptState) (b : Bool) → AsksApt (sched_worked (queued_at s b id t)).1
-      at attempts.Scheduled true = (
-        record { single = asked_single id (found_in t id.app) t.asks apt.0.single; others = λ q some. apt.0.others q (sym (asked_others id (found_in t id.app) t.asks q) ∙ some) },
-        (λ q some. apt.1 q (sym (asked_others id (found_in t id.app) t.asks q) ∙ some)),
-        apt.2,
-      )
-      at s b = still (sched_worked (queued_at s b id t)).1 refl refl refl
-
-      with : (o : Option Current) → AsksApt (sched_worked (queued_with o id t)).1
-      with None = still (sched_worked (queued_with None id t)).1 refl refl refl
-      with (Some current) = at current.state (current.number == id.number)
-
-  absorbed_apt : (name : List ℕ) (turn : ℕ) (list : List ContainerId) (o : Option NodeRow) → AsksApt (sched_worked (absorbed_by o name turn list t)).1
-  absorbed_apt name turn list None = still (sched_worked (absorbed_by None name turn list t)).1 refl refl refl
-  absorbed_apt name turn list (Some row) = by (is_waiting_row row.state && (row.turn == turn))
-    where
-      by : (b : Bool) → AsksApt (sched_worked (absorbed_if b name row list t)).1
-      by true = told_apt t (sched_worked (absorbed_if true name row list t)).1 (closings_of t.tree.apps Gone list) refl refl refl apt
-      by false = still (sched_worked (absorbed_if false name row list t)).1 refl refl refl
-
-  updated_apt : (name : List ℕ) (o : Option NodeRow) → AsksApt (sched_worked (updated_by o name t)).1
-  updated_apt name None = still (sched_worked (updated_by None name t)).1 refl refl refl
-  updated_apt name (Some row) = (once_kept t (grants_on name row t) apt.0, others_kept t (grants_on name row t) apt.1, apps_kept t (grants_on name row t) apt.2)
-
-  -- each event of the scheduler keeps it
-  pub sched_apt : (e : SchedEvent) (list : List ContainerId) → AsksApt (sched_worked (sched_step e list t)).1
-  sched_apt (scheds.AppAdded id) list = still (sched_worked (sched_step (scheds.AppAdded id) list t)).1 refl refl refl
-  sched_apt (scheds.AttemptRecovered id) list = still (sched_worked (sched_step (scheds.AttemptRecovered id) list t)).1 refl refl refl
-  sched_apt (scheds.AttemptAdded id) list = queued_apt id (row_of t.rows id.app)
-  sched_apt (scheds.AttemptRemoved id) list = ended_apt _ list t apt
-  sched_apt (scheds.Release attempt released) list = ended_apt _ _ t apt
-  sched_apt (scheds.NodeAdded node turn) list = absorbed_apt node turn list (node_row t.nodes node)
-  sched_apt (scheds.NodeDone node done) list = ended_apt _ _ t apt
-  sched_apt (scheds.NodeUpdate node) list = updated_apt node (node_row t.nodes node)
-  sched_apt (scheds.NodeLost node) list = ended_apt _ list t apt
+-- each event of the scheduler keeps it
+pub sched_apt : (t : Tables) → AsksApt t → (e : SchedEvent) (list : List ContainerId) → AsksApt (sched_worked (sched_step e list t)).1
+sched_apt t apt e list = by e (sched_step e list t) (sched_outcome t list e)
+  where
+    by : (e : SchedEvent) (done : Entry × Tables) → SchedOutcome t list e done → AsksApt (sched_worked done).1
+    by e done (outcomes.idles one nothing) = told_apt t (sched_worked (sched_quiet t)).1 [] refl refl refl apt
+    by e done (outcomes.posts id) = told_apt t _ [] refl refl refl apt
+    by e done (outcomes.asks id row current is state number) = (
+      record { single = asked_single id (found_in t id.app) t.asks apt.0.single; others = λ q some. apt.0.others q (sym (asked_others id (found_in t id.app) t.asks q) ∙ some) },
+      (λ q some. apt.1 q (sym (asked_others id (found_in t id.app) t.asks q) ∙ some)),
+      apt.2,
+    )
+    by e done (outcomes.ends one cause id ids is) = told_apt t _ (closings_of t.tree.apps cause (id ∷ ids)) refl refl refl apt
+    by e done (outcomes.absorbs name turn row found waits) = told_apt t _ (closings_of t.tree.apps Gone list) refl refl refl apt
+    by e done (outcomes.grants name row found) = (once_kept t (grants_on name row t) apt.0, others_kept t (grants_on name row t) apt.1, apps_kept t (grants_on name row t) apt.2)

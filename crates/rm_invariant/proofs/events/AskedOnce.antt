@@ -71,15 +71,11 @@ goes_granted : (grant : Grant) (rows : List (AppId × Option AppRow)) (id : AppI
 goes_granted grant rows id goes = ap goes_in (row_changed (counting grant) grant.id.attempt.app id rows) ∙ by (is_app grant.id.attempt.app id) (row_of rows id) goes
   where
     at : (s : AttemptState) (one : Current) → one.state ≡ s → (is_alive s || is_ending s) ≡ true → (is_alive (granted_at s grant.id one).state || is_ending (granted_at s grant.id one).state) ≡ true
-    at attempts.Scheduled one is e = absurd (false≢true e)
-    at attempts.Granted one is e = absurd (false≢true e)
-    at attempts.Saving one is e = absurd (false≢true e)
     at attempts.Live one is e = rw is refl
     at attempts.Registered one is e = rw is refl
     at attempts.Finishing one is e = rw is refl
     at attempts.Ending one is e = rw is refl
-    at attempts.Ended one is e = absurd (false≢true e)
-    at attempts.Dropped one is e = absurd (false≢true e)
+    at _ one is e = absurd (false≢true e)
 
     with : (row : AppRow) (o : Option Current) → row.current ≡ o → goes_in (Some row) ≡ true → goes_in (Some (counting grant row)) ≡ true
     with row None is e = absurd (let x : false ≡ true = rw is at e in false≢true x)

@@ -39,9 +39,7 @@ master_asker settings q (Some row) v says asks = by row.state says.1
     by apps.Running says = active row.current says.3
     by apps.Killing says = active row.current says.5
     by apps.FinalSaving says = over row.current says.6
-    by apps.Finished says = over row.current says.5
-    by apps.Failed says = over row.current says.5
-    by apps.Killed says = over row.current says.5
+    by _ says = over row.current says.5
 
 -- its ask stands among those of all attempts
 asks_master : (attempt : AttemptId) (asks : List AskOf) → list_any (λ one. one.priority == 0) (asks_told asks attempt) ≡ true → list_any (is_ask attempt) asks ≡ true

@@ -41,23 +41,11 @@ keeps_attempt (of_app.OfAttempt change) = is_still change
 still_alike : (change : AttemptChange) (was : Current) → is_still change ≡ true → AreAlike (Some was) (current_after (of_app.OfAttempt change) (Some was))
 still_alike (of_attempt.Grant container) was e = cc
 still_alike of_attempt.Requeue was e = cc
-still_alike of_attempt.Issue was e = (refl, refl, refl)
-still_alike of_attempt.Lose was e = (refl, refl, refl)
-still_alike of_attempt.Keep was e = (refl, refl, refl)
-still_alike of_attempt.Finish was e = (refl, refl, refl)
-still_alike (of_attempt.End how) was e = (refl, refl, refl)
-still_alike (of_attempt.KeepEnd how) was e = (refl, refl, refl)
+still_alike _ was e = (refl, refl, refl)
 
 kept_alike : (change : RowChange) (was : Option Current) → keeps_attempt change ≡ true → AreAlike was (current_after change was)
-kept_alike of_app.Issue None e = tt
-kept_alike of_app.Keep None e = tt
-kept_alike of_app.Wish None e = tt
-kept_alike of_app.Kill None e = tt
 kept_alike (of_app.Schedule number) None e = cc
 kept_alike of_app.Register None e = cc
-kept_alike of_app.End None e = tt
-kept_alike (of_app.KeepEnd how) None e = tt
-kept_alike (of_app.OfAttempt change) None e = tt
 kept_alike of_app.Issue (Some was) e = (refl, refl, refl)
 kept_alike of_app.Keep (Some was) e = (refl, refl, refl)
 kept_alike of_app.Wish (Some was) e = (refl, refl, refl)
@@ -67,17 +55,12 @@ kept_alike of_app.Register (Some was) e = cc
 kept_alike of_app.End (Some was) e = (refl, refl, refl)
 kept_alike (of_app.KeepEnd how) (Some was) e = (refl, refl, refl)
 kept_alike (of_app.OfAttempt change) (Some was) e = still_alike change was e
+kept_alike _ None e = tt
 
 same_dialogue : (change : RowChange) (row : AppRow) → keeps_attempt change ≡ true → (changed change row).dialogue ≡ row.dialogue
-same_dialogue of_app.Issue row e = refl
-same_dialogue of_app.Keep row e = refl
-same_dialogue of_app.Wish row e = refl
-same_dialogue of_app.Kill row e = refl
 same_dialogue (of_app.Schedule number) row e = cc
 same_dialogue of_app.Register row e = cc
-same_dialogue of_app.End row e = refl
-same_dialogue (of_app.KeepEnd how) row e = refl
-same_dialogue (of_app.OfAttempt change) row e = refl
+same_dialogue _ row e = refl
 
 module _ (registered : List MasterState) (granted : List ContainerId) (attempt : AttemptId) where
   -- what is said of an attempt by one row is said by one that is alike

@@ -73,14 +73,7 @@ closings_passed outbox id retired (grant ∷ grants) rows same =
 pub granted_keeps : (state : AttemptState) (id : ContainerId) (one : Current)
     → ((granted_at state id one).number ≡ one.number) × ((granted_at state id one).registered ≡ one.registered) × ((granted_at state id one).granted ≡ id.seq)
 granted_keeps attempts.Scheduled id one = (refl, refl, refl)
-granted_keeps attempts.Granted id one = (refl, refl, refl)
-granted_keeps attempts.Saving id one = (refl, refl, refl)
-granted_keeps attempts.Live id one = (refl, refl, refl)
-granted_keeps attempts.Registered id one = (refl, refl, refl)
-granted_keeps attempts.Finishing id one = (refl, refl, refl)
-granted_keeps attempts.Ending id one = (refl, refl, refl)
-granted_keeps attempts.Ended id one = (refl, refl, refl)
-granted_keeps attempts.Dropped id one = (refl, refl, refl)
+granted_keeps _ id one = (refl, refl, refl)
 
 -- the same attempts are current
 pub still_current : (grant : Grant) (rows : List (AppId × Option AppRow)) (attempt : AttemptId) → is_current_number (rows_after_grant rows grant) attempt ≡ is_current_number rows attempt

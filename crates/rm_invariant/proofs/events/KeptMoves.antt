@@ -70,14 +70,7 @@ module _ (settings : Settings) (h : History) (t : Tables) (w : CoreInvariant set
     where
       at_state : (s : AttemptState) (attempt : AttemptId) → events_of q (dropped_at s attempt) ≡ []
       at_state attempts.Scheduled attempt = refl
-      at_state attempts.Granted attempt = refl
-      at_state attempts.Saving attempt = refl
-      at_state attempts.Live attempt = refl
-      at_state attempts.Registered attempt = refl
-      at_state attempts.Finishing attempt = refl
-      at_state attempts.Ending attempt = refl
-      at_state attempts.Ended attempt = refl
-      at_state attempts.Dropped attempt = refl
+      at_state _ attempt = refl
 
       of_current : (c : Option Current) → events_of q (dropped_of c id) ≡ []
       of_current None = refl

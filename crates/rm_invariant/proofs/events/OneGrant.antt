@@ -122,14 +122,7 @@ waited grant rows id e = by (is_app grant.id.attempt.app id) (row_of rows id) (s
   where
     at : (s : AttemptState) (one : Current) → one.state ≡ s → waits_at (granted_at s grant.id one).state ≡ true → waits_at s ≡ true
     at attempts.Scheduled one is e = refl
-    at attempts.Granted one is e = subst (λ (s : AttemptState). waits_at s ≡ true) is e
-    at attempts.Saving one is e = subst (λ (s : AttemptState). waits_at s ≡ true) is e
-    at attempts.Live one is e = subst (λ (s : AttemptState). waits_at s ≡ true) is e
-    at attempts.Registered one is e = subst (λ (s : AttemptState). waits_at s ≡ true) is e
-    at attempts.Finishing one is e = subst (λ (s : AttemptState). waits_at s ≡ true) is e
-    at attempts.Ending one is e = subst (λ (s : AttemptState). waits_at s ≡ true) is e
-    at attempts.Ended one is e = subst (λ (s : AttemptState). waits_at s ≡ true) is e
-    at attempts.Dropped one is e = subst (λ (s : AttemptState). waits_at s ≡ true) is e
+    at _ one is e = subst (λ (s : AttemptState). waits_at s ≡ true) is e
 
     with : (row : AppRow) (o : Option Current) → row.current ≡ o → waits_for_master (Some (counting grant row)) ≡ true → waits_for_master (Some row) ≡ true
     with row None is e = absurd (let x : false ≡ true = rw is at e in false≢true x)

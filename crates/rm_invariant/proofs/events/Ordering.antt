@@ -1,25 +1,18 @@
--- AttemptSaved, as a whole step that keeps all that holds of an open life: the attempt is ended, or the launch of its master is ordered at the
--- node where that stands.
-use Rattle.rm_invariant.proofs.Common.{◌≡◌, ℕ, List, [], ◌∷◌, ◌++◌, Bool, true, false, Option, None, Some, refl, sym, ◌∙◌, ap, subst, if◌then◌else◌, bytes_eq, Entry, Ordered, AttemptId, ContainerId, Settings, same_text, ids_on, lives_on, killed_text, lost_text, judged_node, with_judged_node, LifeState, Row, MainEvent, SchedEvent, AppRow, Current, Tables, main_popped, main_quiet, main_worked, launch_of_master, launch_of_row, launch_of_tests, launch_of_place, launch_of_living, launch_of_current, is_living_one, main_step, node_at, with_order, ordered_row, row_of, PlainNode, with_same, History, abstract_life}
+-- The launch of a master is ordered at the node where it stands, as a whole step that keeps all that holds of an open life.
+use Rattle.rm_invariant.proofs.Common.{◌≡◌, ℕ, List, [], ◌∷◌, ◌++◌, Bool, true, false, Option, None, Some, refl, sym, ◌∙◌, ap, subst, if◌then◌else◌, bytes_eq, Ordered, ContainerId, Settings, same_text, ids_on, lives_on, judged_node, with_judged_node, LifeState, Row, SchedEvent, Tables, main_popped, main_worked, node_at, with_order, ordered_row, PlainNode, with_same, History, abstract_life}
 use Rattle.std.proofs.Common.{is_some}
 use Rattle.std.specs.Prelude.{option_and_then, option_map}
-use Rattle.rm_types.specs.declared.operations.How.TheVariants as ways
 use Rattle.rm_model.specs.Changes.{orders}
 use Rattle.rm_model.specs.State.{NodeState}
-use Rattle.rm_tables.specs.declared.events.MainEvent.TheVariants as mains
 use Rattle.rm_refinement.proofs.Found.{other_told, own_told}
 use Rattle.rm_invariant.specs.nodes.Invariant.{NodesInvariant, NodeInvariant, events_of}
 use Rattle.rm_invariant.specs.nodes.Book.{All, AreLaunches, BookInvariant, BookRowInvariant}
 use Rattle.rm_invariant.proofs.nodes.Holds.{all_append, all_map}
 use Rattle.rm_invariant.specs.masters.Preserves.{PreservesContainersTo}
-use Rattle.rm_invariant.specs.masters.Invariant.{MastersAreOwn}
 use Rattle.rm_invariant.proofs.masters.Held.{same_node, stands}
-use Rattle.rm_invariant.proofs.masters.Launched.{launched_joins}
 use Rattle.rm_invariant.specs.events.Refines.{Refines}
 use Rattle.rm_invariant.specs.Core.{Nothing, CoreInvariant, PreservesCore}
 use Rattle.rm_invariant.proofs.events.Leaving.{stepped_whole}
-use Rattle.rm_invariant.proofs.events.MasterMoves.{end_whole}
-use Rattle.rm_invariant.proofs.events.Moving.{quiet_whole}
 
 module _ (c : ContainerId) (name : List ℕ) where
   -- a node that is to launch it too
@@ -75,15 +68,8 @@ module _ (c : ContainerId) (name : List ℕ) where
       all_rows (row ∷ rows) k = ((ap is_some (offers_still life.nodes row.node) ∙ k.0.0, k.0.1, k.0.2, k.0.3), all_rows rows k.1)
 
 module _ (settings : Settings) (h : History) (t : Tables) (w : CoreInvariant settings h t) where
-  -- what an event comes to, where the applications and masters allow it
-  abbrev Comes : Entry × Tables → Type 0
-  Comes done = PreservesContainersTo settings h t (main_worked done) → PreservesCore settings h t (main_worked done)
-
-  quiet : Comes (main_quiet t)
-  quiet joins = quiet_whole settings h t w joins
-
   -- the launch is ordered
-  ordered_whole : (c : ContainerId) (name : List ℕ) → node_at t.book c ≡ Some name → Comes (Ordered c name, with_order c name t)
+  pub ordered_whole : (c : ContainerId) (name : List ℕ) → node_at t.book c ≡ Some name → PreservesContainersTo settings h t (main_worked (Ordered c name, with_order c name t)) → PreservesCore settings h t (main_worked (Ordered c name, with_order c name t))
   ordered_whole c name place joins =
       let life : LifeState = orders (abstract_life h t) c name in
       let on = (stands h.book c name (sym (same_node t.book h.book c w.agrees.rows) ∙ place)).on in
@@ -98,33 +84,3 @@ module _ (settings : Settings) (h : History) (t : Tables) (w : CoreInvariant set
         masters = w.agrees.masters;
       } in
       stepped_whole settings h t (Ordered c name) (main_popped (with_order c name t)) life joins refl w.sound agrees (nodes_good c name h.nodes h.book t.sched w.nodes) (orders_holds c name (abstract_life h t) on w.book)
-
-  -- AttemptSaved
-  module _ (id : AttemptId) where
-    launched_place : (c : ContainerId) (place : Option (List ℕ)) → node_at t.book c ≡ place → Comes (launch_of_place place c t)
-    launched_place c None e joins = quiet joins
-    launched_place c (Some name) e joins = ordered_whole c name e joins
-
-    launched_master : (o : Option ContainerId) → Comes (launch_of_master o t)
-    launched_master None joins = quiet joins
-    launched_master (Some c) joins = launched_place c (node_at t.book c) refl joins
-
-    launched_now : (wish lost : Bool) (master : Option ContainerId) → Comes (launch_of_tests wish lost master id t)
-    launched_now true lost master joins = end_whole settings h t w id ways.Killed killed_text joins
-    launched_now false true master joins = end_whole settings h t w id ways.Failed lost_text joins
-    launched_now false false master joins = launched_master master joins
-
-    launched_living : (b wish : Bool) (current : Current) → Comes (launch_of_living b wish current id t)
-    launched_living true wish current joins = launched_now wish current.lost current.master joins
-    launched_living false wish current joins = quiet joins
-
-    launched_current : (c : Option Current) (wish : Bool) → Comes (launch_of_current c wish id t)
-    launched_current None wish joins = quiet joins
-    launched_current (Some current) wish joins = launched_living (is_living_one id current) wish current joins
-
-    launched_row : (o : Option AppRow) → Comes (launch_of_row o id t)
-    launched_row None joins = quiet joins
-    launched_row (Some row) joins = launched_current row.current row.wish joins
-
-    pub launched_whole : MastersAreOwn t.tree.apps → (rest : List MainEvent) → t.main ≡ mains.AttemptSaved id ∷ rest → PreservesCore settings h t (main_worked (main_step (mains.AttemptSaved id) t))
-    launched_whole apt rest front = launched_row (row_of t.rows id.app) (launched_joins settings h t w.keeps w.marks apt w.agrees.rows id rest front)

@@ -27,15 +27,7 @@ module _ (t : Tables) where
       by : (s : AppState) (wish : Bool) → row.state ≡ s → Outcome t (save_of_state s wish id t)
       by apps.Submitted true is = ends id row ways.Killed killed_text e (inl is) (inl (refl, refl))
       by apps.Submitted false is = adds id row rest e is front
-      by apps.New wish is = idles
-      by apps.NewSaving wish is = idles
-      by apps.Accepted wish is = idles
-      by apps.Running wish is = idles
-      by apps.Killing wish is = idles
-      by apps.FinalSaving wish is = idles
-      by apps.Finished wish is = idles
-      by apps.Failed wish is = idles
-      by apps.Killed wish is = idles
+      by _ wish is = idles
 
   -- AppAccepted
   accepted : (id : AppId) (o : Option AppRow) → row_of t.rows id ≡ o → Outcome t (accept_of_row o id t)
@@ -44,15 +36,7 @@ module _ (t : Tables) where
     where
       by : (s : AppState) → row.state ≡ s → Outcome t (accept_of_state s id t)
       by apps.Submitted is = accepts id row e is
-      by apps.New is = idles
-      by apps.NewSaving is = idles
-      by apps.Accepted is = idles
-      by apps.Running is = idles
-      by apps.Killing is = idles
-      by apps.FinalSaving is = idles
-      by apps.Finished is = idles
-      by apps.Failed is = idles
-      by apps.Killed is = idles
+      by _ is = idles
 
   -- AppKill
   killed : (id : AppId) (o : Option AppRow) → row_of t.rows id ≡ o → Outcome t (kill_of_row o id t)
@@ -62,28 +46,18 @@ module _ (t : Tables) where
       at_state : (current : Current) (s : AttemptState) → current.state ≡ s → row.current ≡ Some current → is_active row.state ≡ true → Outcome t (kill_of_attempt_state s (record { app = id; number = current.number }) t)
       at_state current attempts.Scheduled is c g = ends id row ways.Killed killed_text e (inr (g, (current, c, rw is refl))) (inl (refl, refl))
       at_state current attempts.Granted is c g = ends id row ways.Killed killed_text e (inr (g, (current, c, rw is refl))) (inl (refl, refl))
-      at_state current attempts.Saving is c g = delays id row current (record { found = e; is = c }) (rw is refl) g
       at_state current attempts.Live is c g = kills (record { app = id; number = current.number }) row current (record { found = e; is = c }) refl (rw is refl) g
       at_state current attempts.Registered is c g = kills (record { app = id; number = current.number }) row current (record { found = e; is = c }) refl (rw is refl) g
       at_state current attempts.Finishing is c g = kills (record { app = id; number = current.number }) row current (record { found = e; is = c }) refl (rw is refl) g
-      at_state current attempts.Ending is c g = delays id row current (record { found = e; is = c }) (rw is refl) g
-      at_state current attempts.Ended is c g = delays id row current (record { found = e; is = c }) (rw is refl) g
       at_state current attempts.Dropped is c g = idles
+      at_state current _ is c g = delays id row current (record { found = e; is = c }) (rw is refl) g
 
       by : (s : AppState) (c : Option Current) → row.state ≡ s → row.current ≡ c → Outcome t (kill_of_state s c id t)
       by apps.Submitted c is o = ends id row ways.Killed killed_text e (inl is) (inl (refl, refl))
       by apps.Accepted (Some current) is o = at_state current current.state refl o (rw is refl)
       by apps.Running (Some current) is o = at_state current current.state refl o (rw is refl)
       by apps.Killing (Some current) is o = at_state current current.state refl o (rw is refl)
-      by apps.Accepted None is o = idles
-      by apps.Running None is o = idles
-      by apps.Killing None is o = idles
-      by apps.New c is o = idles
-      by apps.NewSaving c is o = idles
-      by apps.FinalSaving c is o = idles
-      by apps.Finished c is o = idles
-      by apps.Failed c is o = idles
-      by apps.Killed c is o = idles
+      by _ _ is o = idles
 
   -- MasterGranted
   granted : (container : ContainerId) (rest : List MainEvent) → t.main ≡ mains.MasterGranted container ∷ rest → (o : Option AppRow) → row_of t.rows container.attempt.app ≡ o → Outcome t (grant_of_row o container t)
@@ -97,15 +71,7 @@ module _ (t : Tables) where
 
       by : (current : Current) (s : AttemptState) (b : Bool) → row.current ≡ Some current → current.state ≡ s → ((current.number == container.attempt.number) && is_master_of container current.master) ≡ b → Outcome t (grant_of_state s b container t)
       by current attempts.Granted true c is own = let x = and_parts (current.number == container.attempt.number) (is_master_of container current.master) own in place current c is x.0 x.1 (node_at t.book container) refl
-      by current attempts.Granted false c is own = idles
-      by current attempts.Scheduled b c is own = idles
-      by current attempts.Saving b c is own = idles
-      by current attempts.Live b c is own = idles
-      by current attempts.Registered b c is own = idles
-      by current attempts.Finishing b c is own = idles
-      by current attempts.Ending b c is own = idles
-      by current attempts.Ended b c is own = idles
-      by current attempts.Dropped b c is own = idles
+      by current _ _ c is own = idles
 
       with_current : (c : Option Current) → row.current ≡ c → Outcome t (grant_of_current c container t)
       with_current None c = idles
@@ -151,15 +117,7 @@ module _ (t : Tables) where
       by current attempts.Live true c is own = let x = and_parts (current.number == container.attempt.number) (is_master_of container current.master) own in ended current c x.0 (rw is refl)
       by current attempts.Registered true c is own = let x = and_parts (current.number == container.attempt.number) (is_master_of container current.master) own in ended current c x.0 (rw is refl)
       by current attempts.Finishing true c is own = let x = and_parts (current.number == container.attempt.number) (is_master_of container current.master) own in ended current c x.0 (rw is refl)
-      by current attempts.Saving false c is own = idles
-      by current attempts.Live false c is own = idles
-      by current attempts.Registered false c is own = idles
-      by current attempts.Finishing false c is own = idles
-      by current attempts.Scheduled b c is own = idles
-      by current attempts.Granted b c is own = idles
-      by current attempts.Ending b c is own = idles
-      by current attempts.Ended b c is own = idles
-      by current attempts.Dropped b c is own = idles
+      by current _ _ c is own = idles
 
       with_current : (c : Option Current) → row.current ≡ c → Outcome t (loss_of_current c container t)
       with_current None c = idles
@@ -216,14 +174,7 @@ module _ (t : Tables) where
 
       at_state : (current : Current) (s : AttemptState) → current.state ≡ s → row.current ≡ Some current → is_active row.state ≡ true → Outcome t (decision_of_attempt_state s row.wish id t)
       at_state current attempts.Ended is c g = decides current c g is (end_with t.settings row.wish (found_in t id) (last_end_in (found_in t id))) refl
-      at_state current attempts.Scheduled is c g = idles
-      at_state current attempts.Granted is c g = idles
-      at_state current attempts.Saving is c g = idles
-      at_state current attempts.Live is c g = idles
-      at_state current attempts.Registered is c g = idles
-      at_state current attempts.Finishing is c g = idles
-      at_state current attempts.Ending is c g = idles
-      at_state current attempts.Dropped is c g = idles
+      at_state current _ is c g = idles
 
       with_current : (s : AppState) (c : Option Current) → row.state ≡ s → row.current ≡ c → Outcome t (decision_of_current s c row.wish id t)
       with_current s None is c = idles

@@ -35,9 +35,7 @@ found_name name nodes node found = same_text node.name name (found_passes (λ on
 -- it is ready on both sides, or on neither
 pub ready_same : (state : NodePhase) → is_ready_row state ≡ ready_told (phase_of state)
 ready_same states.Absent = refl
-ready_same states.Waiting = refl
-ready_same states.Ready = refl
-ready_same states.Lost = refl
+ready_same _ = refl
 
 module _ (settings : Settings) (m : Scene) (t : Tables) (recorded : m.records ≡ t.tree) (epoch : m.life.epoch ≡ t.epoch) (same : Refines m.life t) (current : AskersCurrent t) where
   -- what first fit grants

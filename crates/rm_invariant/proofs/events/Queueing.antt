@@ -1,6 +1,6 @@
 -- AppAdded and AttemptAdded, each as a whole step that keeps all that holds of an open life: an application is to be accepted, and an attempt
 -- that is scheduled asks for its master's container.
-use Rattle.rm_invariant.proofs.Common.{◌≡◌, List, [], ◌∷◌, ◌++◌, Bool, true, false, Option, None, Some, drop, filter, map, refl, sym, ◌∙◌, ap, subst, suc, arith, list_any, nat_tests, map-append, filter-append, Ask, AskOf, AppId, AttemptId, ContainerId, AppRecord, Resource, Settings, is_attempt, record_of, same_attempt, app_itself, AsksOf, attempt_asks, asks_set, is_for, if◌then◌else◌, LifeState, AttemptState, SchedEvent, AppRow, Current, Tables, found_in, sched_popped, sched_quiet, sched_worked, row_of, master_asked, queued_at, queued_by, queued_with, sched_step, SameAsks, History, abstract_life}
+use Rattle.rm_invariant.proofs.Common.{◌≡◌, List, [], ◌∷◌, ◌++◌, Bool, true, false, Some, drop, filter, map, refl, sym, ◌∙◌, ap, subst, suc, arith, list_any, nat_tests, map-append, filter-append, Ask, AskOf, AppId, AttemptId, ContainerId, AppRecord, Resource, Settings, is_attempt, record_of, same_attempt, app_itself, AsksOf, attempt_asks, asks_set, is_for, if◌then◌else◌, LifeState, SchedEvent, AppRow, Current, Tables, found_in, sched_popped, sched_quiet, sched_worked, row_of, master_asked, sched_step, SameAsks, History, abstract_life, Entry}
 use Rattle.std.proofs.Common.{◌==◌, count_by, append-nil}
 use Rattle.rm_types.specs.declared.entries.Entry.TheVariants.{Queued}
 use Rattle.rm_model.specs.Changes.{master_ask}
@@ -20,6 +20,9 @@ use Rattle.rm_invariant.specs.Core.{CoreInvariant, PreservesCore}
 use Rattle.rm_invariant.proofs.events.Answered.{other_asks, own_asks}
 use Rattle.rm_invariant.proofs.events.Events.{still_good}
 use Rattle.rm_invariant.proofs.events.Leaving.{idle_whole, stepped_whole}
+use Rattle.rm_invariant.specs.events.SchedOutcomes.{SchedOutcome}
+use Rattle.rm_invariant.specs.events.SchedOutcomes as outcomes
+use Rattle.rm_invariant.proofs.events.SchedOutcomes.{sched_outcome}
 
 -- an attempt that doesn't ask for its master has no such ask
 none_for : (id : AttemptId) (size : Resource) (asks : List AskOf) → count_by (is_ask id) asks ≡ 0 → list_any (is_for 0 size) (asks_told asks id) ≡ false
@@ -99,26 +102,10 @@ module _ (settings : Settings) (h : History) (t : Tables) (w : CoreInvariant set
     idle : PreservesContainersTo settings h t (sched_worked (sched_quiet t)) → PreservesCore settings h t (sched_worked (sched_quiet t))
     idle joins = idle_whole settings h t w (scheds.AttemptAdded id) rest front t.main joins good
 
-    by_state : (row : AppRow) → row_of t.rows id.app ≡ Some row → (current : Current) → row.current ≡ Some current → (s : AttemptState) → current.state ≡ s → (b : Bool) → (current.number == id.number) ≡ b
-        → PreservesContainersTo settings h t (sched_worked (queued_at s b id t)) → PreservesCore settings h t (sched_worked (queued_at s b id t))
-    by_state row found current is attempts.Scheduled s true n joins = let f = facts row found current is s n in asked f.0 f.1 f.2 joins
-    by_state row found current is attempts.Scheduled s false n joins = idle joins
-    by_state row found current is attempts.Granted s b n joins = idle joins
-    by_state row found current is attempts.Saving s b n joins = idle joins
-    by_state row found current is attempts.Live s b n joins = idle joins
-    by_state row found current is attempts.Registered s b n joins = idle joins
-    by_state row found current is attempts.Finishing s b n joins = idle joins
-    by_state row found current is attempts.Ending s b n joins = idle joins
-    by_state row found current is attempts.Ended s b n joins = idle joins
-    by_state row found current is attempts.Dropped s b n joins = idle joins
-
-    by_current : (row : AppRow) → row_of t.rows id.app ≡ Some row → (c : Option Current) → row.current ≡ c → PreservesContainersTo settings h t (sched_worked (queued_with c id t)) → PreservesCore settings h t (sched_worked (queued_with c id t))
-    by_current row found None is joins = idle joins
-    by_current row found (Some current) is joins = by_state row found current is current.state refl (current.number == id.number) refl joins
-
-    by_row : (o : Option AppRow) → row_of t.rows id.app ≡ o → PreservesContainersTo settings h t (sched_worked (queued_by o id t)) → PreservesCore settings h t (sched_worked (queued_by o id t))
-    by_row None found joins = idle joins
-    by_row (Some row) found joins = by_current row found row.current refl joins
-
     pub queued_whole : (list : List ContainerId) → PreservesCore settings h t (sched_worked (sched_step (scheds.AttemptAdded id) list t))
-    queued_whole list = by_row (row_of t.rows id.app) refl (queued_joins settings h t w.keeps w.marks id rest front list)
+    queued_whole list = by (sched_step (scheds.AttemptAdded id) list t) (sched_outcome t list (scheds.AttemptAdded id)) (queued_joins settings h t w.keeps w.marks id rest front list)
+      where
+        by : (done : Entry × Tables) → SchedOutcome t list (scheds.AttemptAdded id) done → PreservesContainersTo settings h t (sched_worked done) → PreservesCore settings h t (sched_worked done)
+        by done (outcomes.idles e nothing) joins = idle joins
+        by done (outcomes.asks one row current is state number) joins = let f = facts row is.found current is.is state number in asked f.0 f.1 f.2 joins
+        by done (outcomes.ends e cause one ids is) joins = cc

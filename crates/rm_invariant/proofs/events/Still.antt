@@ -4,7 +4,7 @@ use Rattle.rm_invariant.proofs.Common.{◌⊎◌, inl, inr, ◌≡◌, ◌≤◌
 use Rattle.std.proofs.Common.{nat_lt, count_by}
 use Rattle.rm_types.specs.declared.operations.Op.TheVariants as ops
 use Rattle.rm_tables.specs.declared.events.MainEvent.TheVariants as mains
-use Rattle.rm_invariant.specs.events.Outcomes.{Outcome, accepts, adds, delays, ends, ends_one, follows, idles, issues, kills, loses, orders, removes, requeues, saves}
+use Rattle.rm_invariant.specs.events.Outcomes.{Outcome, removes}
 use Rattle.rm_invariant.specs.apps.Completed.{Completes, is_retire}
 use Rattle.rm_invariant.proofs.apps.Completing.{completes_still, retire_left, retire_posted}
 use Rattle.rm_invariant.specs.masters.Invariant.{MastersAreOwn}
@@ -26,20 +26,8 @@ record IsRemoved (t next : Tables) : Type 0 where
 module _ (t : Tables) where
   -- each thing that an event of the main queue may come to
   outcome_still : (done : Entry × Tables) → Outcome t done → IsStill t done.1 ⊎ IsRemoved t done.1
-  outcome_still done idles = inl (record { tree = refl; settings = refl; ended = refl; main = refl })
-  outcome_still done (saves id row submission rest found waits front) = inl (record { tree = refl; settings = refl; ended = refl; main = refl })
-  outcome_still done (adds id row behind found state at_front) = inl (record { tree = refl; settings = refl; ended = refl; main = refl })
-  outcome_still done (accepts id row found state) = inl (record { tree = refl; settings = refl; ended = refl; main = refl })
-  outcome_still done (ends id row how text found stopped said) = inl (record { tree = refl; settings = refl; ended = refl; main = refl })
-  outcome_still done (kills id row current is number alive goes) = inl (record { tree = refl; settings = refl; ended = refl; main = refl })
-  outcome_still done (delays id row current is waits goes) = inl (record { tree = refl; settings = refl; ended = refl; main = refl })
-  outcome_still done (issues container node row current is state number mine on) = inl (record { tree = refl; settings = refl; ended = refl; main = refl })
-  outcome_still done (requeues container row current behind is state number mine on at_front) = inl (record { tree = refl; settings = refl; ended = refl; main = refl })
-  outcome_still done (orders id container node row current is number alive master on) = inl (record { tree = refl; settings = refl; ended = refl; main = refl })
-  outcome_still done (ends_one id row current how text is number alive said) = inl (record { tree = refl; settings = refl; ended = refl; main = refl })
-  outcome_still done (loses container row current is state number mine) = inl (record { tree = refl; settings = refl; ended = refl; main = refl })
-  outcome_still done (follows id row current is goes state none) = inl (record { tree = refl; settings = refl; ended = refl; main = refl })
   outcome_still done (removes id more first many) = inr (record { id = id; more = more; first = first; is = refl })
+  outcome_still done _ = inl (record { tree = refl; settings = refl; ended = refl; main = refl })
 
   main_keeps : (done : Entry × Tables) → Outcome t done → (done.1.tree ≡ t.tree) × (done.1.settings ≡ t.settings)
   main_keeps done outcome = by done.1 (outcome_still done outcome)
@@ -108,14 +96,4 @@ module _ (t : Tables) where
 
       by : (one : MainEvent) → e ≡ one → Completes (main_worked (main_step e t)).1
       by mains.Retire is = retiring is
-      by mains.EpochStart is = other (rw is refl)
-      by (mains.AppStart id) is = other (rw is refl)
-      by (mains.AppSaved id) is = other (rw is refl)
-      by (mains.AppAccepted id) is = other (rw is refl)
-      by (mains.AppKill id) is = other (rw is refl)
-      by (mains.MasterGranted id) is = other (rw is refl)
-      by (mains.AttemptSaved id) is = other (rw is refl)
-      by (mains.MasterLost id) is = other (rw is refl)
-      by (mains.AttemptExpired id) is = other (rw is refl)
-      by (mains.AttemptFinish id) is = other (rw is refl)
-      by (mains.AttemptDone id) is = other (rw is refl)
+      by _ is = other (rw is refl)

@@ -43,14 +43,9 @@ asks_say settings q row current v is number says = by row.state says.1
   where
     at : (s : AttemptState) → current.state ≡ s → AttemptCounts q.number true s row.wish v → ((current.state ≡ attempts.Scheduled) × (v.count.asks ≤ 1)) ⊎ (v.count.asks ≡ 0)
     at attempts.Scheduled e here = let n = here.0 in inl (e, omega (arith, n))
-    at attempts.Granted e here = let n = here.0 in inr (omega (arith, n))
-    at attempts.Saving e here = let n = here.0 in inr (omega (arith, n))
-    at attempts.Live e here = let n = here.0 in inr (omega (arith, n))
-    at attempts.Registered e here = let n = here.0 in inr (omega (arith, n))
-    at attempts.Finishing e here = let n = here.0 in inr (omega (arith, n))
-    at attempts.Ending e here = let n = here.0 in inr (omega (arith, n))
     at attempts.Ended e here = inr (omega (arith, here))
     at attempts.Dropped e here = inr here
+    at _ e here = let n = here.0 in inr (omega (arith, n))
 
     active : ActiveInvariant settings q row.current row.wish v → ((current.state ≡ attempts.Scheduled) × (v.count.asks ≤ 1)) ⊎ (v.count.asks ≡ 0)
     active old =
@@ -68,9 +63,7 @@ asks_say settings q row current v is number says = by row.state says.1
     by apps.Running says = active says.3
     by apps.Killing says = active says.5
     by apps.FinalSaving says = over says.6
-    by apps.Finished says = over says.5
-    by apps.Failed says = over says.5
-    by apps.Killed says = over says.5
+    by _ says = over says.5
 
 -- the only line is a master's
 only_line : (asks : List Ask) → asks_others asks ≡ false → count_by is_zero asks ≤ 1 → are_single asks ≡ true → not (is_nil asks) ≡ true → (size : Resource) × (asks ≡ line_of size ∷ [])
@@ -122,15 +115,11 @@ pub record Ready (o : Option AppRow) (asks : List Ask) (number : ℕ) (size : Re
 
 -- a state in which it lives, or its end is issued
 goes_at : (s : AttemptState) → (is_alive s || is_ending s) ≡ true → Alive s ⊎ (s ≡ attempts.Ending)
-goes_at attempts.Scheduled e = cc
-goes_at attempts.Granted e = cc
-goes_at attempts.Saving e = cc
 goes_at attempts.Live e = inl (inl refl)
 goes_at attempts.Registered e = inl (inr (inl refl))
 goes_at attempts.Finishing e = inl (inr (inr refl))
 goes_at attempts.Ending e = inr refl
-goes_at attempts.Ended e = cc
-goes_at attempts.Dropped e = cc
+goes_at _ e = cc
 
 -- the row and the current attempt, found
 pub record Found (o : Option AppRow) (number : ℕ) : Type 0 where

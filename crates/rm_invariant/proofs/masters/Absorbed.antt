@@ -81,15 +81,12 @@ module _ (settings : Settings) (h : History) (t : Tables) (says : AttemptsInvari
 
   of_current : (row : AppRow) → row_of t.rows q.app ≡ Some row → (current : Current) → row.current ≡ Some current → (s : AttemptState) → current.state ≡ s
       → CurrentInvariant settings s (record { app = q.app; number = current.number }) row.wish (view h t q) → GoesHere t q
-  of_current row found current is attempts.Scheduled e says = absurd (not_all says.0.2)
-  of_current row found current is attempts.Granted e says = absurd (not_all says.0.2)
-  of_current row found current is attempts.Saving e says = absurd (not_all says.0.2)
   of_current row found current is attempts.Live e says = record { row = row; found = found; current = current; is = is; number = of_going current.number says.0; state = inl (inl e) }
   of_current row found current is attempts.Registered e says = record { row = row; found = found; current = current; is = is; number = of_going current.number says.0; state = inl (inr (inl e)) }
   of_current row found current is attempts.Finishing e says = record { row = row; found = found; current = current; is = is; number = of_going current.number says.0; state = inl (inr (inr e)) }
   of_current row found current is attempts.Ending e says = record { row = row; found = found; current = current; is = is; number = of_going current.number says.0; state = inr e }
-  of_current row found current is attempts.Ended e says = absurd (not_all says.0.2)
   of_current row found current is attempts.Dropped e says = absurd says
+  of_current row found current is _ e says = absurd (not_all says.0.2)
 
   of_active : (row : AppRow) → row_of t.rows q.app ≡ Some row → (c : Option Current) → row.current ≡ c → ActiveInvariant settings q c row.wish (view h t q) → GoesHere t q
   of_active row found None is says = absurd says

@@ -107,14 +107,7 @@ AllReleases (_ ∷ more) = ⊥
 releases_none : (p : SchedEvent → Bool) → ((attempt : AttemptId) (list : List ContainerId) → p (scheds.Release attempt list) ≡ false) → (events : List SchedEvent) → AllReleases events → count_by p events ≡ 0
 releases_none p never [] all = refl
 releases_none p never (scheds.Release attempt list ∷ more) all = let none = never attempt list in at_front p (scheds.Release attempt list) more ∙ rw none (releases_none p never more all)
-releases_none p never (scheds.AppAdded id ∷ more) all = absurd all
-releases_none p never (scheds.AttemptRecovered id ∷ more) all = absurd all
-releases_none p never (scheds.AttemptAdded id ∷ more) all = absurd all
-releases_none p never (scheds.AttemptRemoved id ∷ more) all = absurd all
-releases_none p never (scheds.NodeAdded node turn ∷ more) all = absurd all
-releases_none p never (scheds.NodeDone node list ∷ more) all = absurd all
-releases_none p never (scheds.NodeUpdate node ∷ more) all = absurd all
-releases_none p never (scheds.NodeLost node ∷ more) all = absurd all
+releases_none p never _ all = absurd all
 
 releases_more : (p : SchedEvent → Bool) → ((attempt : AttemptId) (list : List ContainerId) → p (scheds.Release attempt list) ≡ false) → (sched events : List SchedEvent) → AllReleases events → count_by p (sched ++ events) ≡ count_by p sched
 releases_more p never sched events all = let e = count_append p sched events in let n = releases_none p never events all in omega (arith, e, n)

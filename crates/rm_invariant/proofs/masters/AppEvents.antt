@@ -172,15 +172,7 @@ module _ (settings : Settings) (h : History) (t : Tables) (k : AppsInvariant set
       kill_some apps.Accepted st (Some current) is some = kill_current current is current.state refl some
       kill_some apps.Running st (Some current) is some = kill_current current is current.state refl some
       kill_some apps.Killing st (Some current) is some = kill_current current is current.state refl some
-      kill_some apps.Accepted st None is some = kill_nothing some
-      kill_some apps.Running st None is some = kill_nothing some
-      kill_some apps.Killing st None is some = kill_nothing some
-      kill_some apps.New st c is some = kill_nothing some
-      kill_some apps.NewSaving st c is some = kill_nothing some
-      kill_some apps.FinalSaving st c is some = kill_nothing some
-      kill_some apps.Finished st c is some = kill_nothing some
-      kill_some apps.Failed st c is some = kill_nothing some
-      kill_some apps.Killed st c is some = kill_nothing some
+      kill_some _ st _ is some = kill_nothing some
 
     kill_cases : (row : Option AppRow) → row_of t.rows id ≡ row → KillJoins (kill_of_row row id t)
     kill_cases None found = kill_nothing (kill_steps settings h t k id rest front None found)
@@ -221,14 +213,7 @@ module _ (settings : Settings) (h : History) (t : Tables) (k : AppsInvariant set
 
       done_current : (s : AttemptState) → current.state ≡ s → DoneSteps (decision_of_attempt_state s row.wish a.app t) → DoneJoins (decision_of_attempt_state s row.wish a.app t)
       done_current attempts.Ended e some = decided_joins e (end_with t.settings row.wish (found_in t a.app) (last_end_in (found_in t a.app))) some
-      done_current attempts.Scheduled e some = done_nothing some
-      done_current attempts.Granted e some = done_nothing some
-      done_current attempts.Saving e some = done_nothing some
-      done_current attempts.Live e some = done_nothing some
-      done_current attempts.Registered e some = done_nothing some
-      done_current attempts.Finishing e some = done_nothing some
-      done_current attempts.Ending e some = done_nothing some
-      done_current attempts.Dropped e some = done_nothing some
+      done_current _ e some = done_nothing some
 
     done_some : (row : AppRow) → row_of t.rows a.app ≡ Some row → (s : AppState) → row.state ≡ s → (c : Option Current) → row.current ≡ c → DoneSteps (decision_of_current s c row.wish a.app t) → DoneJoins (decision_of_current s c row.wish a.app t)
     done_some row found apps.Accepted st (Some current) is some = done_current row found current is (rw st refl) current.state refl some
@@ -285,15 +270,7 @@ module _ (settings : Settings) (h : History) (t : Tables) (k : AppsInvariant set
 
     saved_some : (row : AppRow) → row_of t.rows id ≡ Some row → (s : AppState) → row.state ≡ s → SavedJoins (save_of_state s row.wish id t)
     saved_some row found apps.Submitted st = saved_wish row found st row.wish refl
-    saved_some row found apps.New st = saved_idle row found (rw st (λ u. cc))
-    saved_some row found apps.NewSaving st = saved_idle row found (rw st (λ u. cc))
-    saved_some row found apps.Accepted st = saved_idle row found (rw st (λ u. cc))
-    saved_some row found apps.Running st = saved_idle row found (rw st (λ u. cc))
-    saved_some row found apps.Killing st = saved_idle row found (rw st (λ u. cc))
-    saved_some row found apps.FinalSaving st = saved_idle row found (rw st (λ u. cc))
-    saved_some row found apps.Finished st = saved_idle row found (rw st (λ u. cc))
-    saved_some row found apps.Failed st = saved_idle row found (rw st (λ u. cc))
-    saved_some row found apps.Killed st = saved_idle row found (rw st (λ u. cc))
+    saved_some row found _ st = saved_idle row found (rw st (λ u. cc))
 
     saved_cases : (row : Option AppRow) → row_of t.rows id ≡ row → SavedJoins (save_of_row row id t)
     saved_cases None found = saved_nothing (saved_none settings h t k id rest front found)
@@ -322,15 +299,7 @@ module _ (settings : Settings) (h : History) (t : Tables) (k : AppsInvariant set
         let alone = alone_by settings zero row (view h t zero) st (rw found at (k.all zero)) in
         schedules_joins (mains.AppAccepted id) rest front (λ c v. refl) first_attempt (Accepted id) (accepting settings h t k id rest front) refl (λ c. refl) row found
         (λ c same says. accepted_marks c row (container_view h t c) alone says) (record { next = accepting settings h t k id rest front; step = accepted_now settings h t k id rest front row found st })
-    accepted_some row found apps.New st = accepted_nothing (accepted_idle settings h t k id rest front row found (rw st (λ u. cc)))
-    accepted_some row found apps.NewSaving st = accepted_nothing (accepted_idle settings h t k id rest front row found (rw st (λ u. cc)))
-    accepted_some row found apps.Accepted st = accepted_nothing (accepted_idle settings h t k id rest front row found (rw st (λ u. cc)))
-    accepted_some row found apps.Running st = accepted_nothing (accepted_idle settings h t k id rest front row found (rw st (λ u. cc)))
-    accepted_some row found apps.Killing st = accepted_nothing (accepted_idle settings h t k id rest front row found (rw st (λ u. cc)))
-    accepted_some row found apps.FinalSaving st = accepted_nothing (accepted_idle settings h t k id rest front row found (rw st (λ u. cc)))
-    accepted_some row found apps.Finished st = accepted_nothing (accepted_idle settings h t k id rest front row found (rw st (λ u. cc)))
-    accepted_some row found apps.Failed st = accepted_nothing (accepted_idle settings h t k id rest front row found (rw st (λ u. cc)))
-    accepted_some row found apps.Killed st = accepted_nothing (accepted_idle settings h t k id rest front row found (rw st (λ u. cc)))
+    accepted_some row found _ st = accepted_nothing (accepted_idle settings h t k id rest front row found (rw st (λ u. cc)))
 
     accepted_cases : (row : Option AppRow) → row_of t.rows id ≡ row → AcceptedJoins (accept_of_row row id t)
     accepted_cases None found = accepted_nothing (accepted_none settings h t k id rest front found)
@@ -382,7 +351,7 @@ module _ (settings : Settings) (h : History) (t : Tables) (k : AppsInvariant set
   -- AttemptAdded
   pub queued_joins : (id : AttemptId) (rest : List SchedEvent) → t.sched ≡ scheds.AttemptAdded id ∷ rest → (list : List ContainerId) → PreservesContainersTo settings h t (sched_worked (sched_step (scheds.AttemptAdded id) list t))
   queued_joins id rest front list =
-      let queued = queued_steps settings h t k id rest front (row_of t.rows id.app) refl in
+      let queued = queued_steps settings h t k id rest front list in
       record {
         next = record h { asks = queued.asked };
         joins =

@@ -37,17 +37,12 @@ module _ (c : ContainerId) (v : ContainerView) where
   own_leaves : (s : AttemptState) (lost m gone : Bool) (n : ℕ) → (gone ≡ true → v.living ≡ true) → (gone ≡ false → n ≡ 0) → (m ≡ true → gone ≡ true → IsTold s true true n) → ContainerByState c s lost m v → ContainerByState c s lost m (left_marks gone n v)
   own_leaves attempts.Scheduled lost m gone n lives none told says = untouched_leaves gone n lives says
   own_leaves attempts.Granted lost false gone n lives none told says = untouched_leaves gone n lives says
-  own_leaves attempts.Granted lost true true n lives none told says = grind arith
-  own_leaves attempts.Granted lost true false n lives none told says = grind arith
-  own_leaves attempts.Saving lost false gone n lives none told says = grind arith
-  own_leaves attempts.Saving lost true true n lives none told says = grind arith
-  own_leaves attempts.Saving lost true false n lives none told says = grind arith
   own_leaves attempts.Live lost m gone n lives none told says = alive_leaves lost m gone n lives none told says
   own_leaves attempts.Registered lost m gone n lives none told says = alive_leaves lost m gone n lives none told says
   own_leaves attempts.Finishing lost m gone n lives none told says = alive_leaves lost m gone n lives none told says
   own_leaves attempts.Ending lost m gone n lives none told says = tt
-  own_leaves attempts.Ended lost m gone n lives none told says = grind arith
   own_leaves attempts.Dropped lost m gone n lives none told says = tt
+  own_leaves _ lost _ _ n lives none told says = grind arith
 
   removal_leaves : (gone : Bool) → (v.living ≡ true → 1 ≤ v.removals) → (v.living && not gone) ≡ true → 1 ≤ v.removals
   removal_leaves gone says = grind arith
@@ -124,15 +119,11 @@ alive_enters c v lost m fresh says =
     first (inr f) x = f
 
 own_enters : (c : ContainerId) (v : ContainerView) (s : AttemptState) (lost m : Bool) → (is_alive s || is_ending s) ≡ true → ((v.living ≡ false) × (v.left ≡ false)) ⊎ (v.first ≡ true) → ContainerByState c s lost m v → ContainerByState c s lost m (record v { living = true })
-own_enters c v attempts.Scheduled lost m a fresh says = cc
-own_enters c v attempts.Granted lost m a fresh says = cc
-own_enters c v attempts.Saving lost m a fresh says = cc
 own_enters c v attempts.Live lost m a fresh says = alive_enters c v lost m fresh says
 own_enters c v attempts.Registered lost m a fresh says = alive_enters c v lost m fresh says
 own_enters c v attempts.Finishing lost m a fresh says = alive_enters c v lost m fresh says
 own_enters c v attempts.Ending lost m a fresh says = tt
-own_enters c v attempts.Ended lost m a fresh says = cc
-own_enters c v attempts.Dropped lost m a fresh says = cc
+own_enters c v _ lost m a fresh says = cc
 
 -- a container enters the book of an attempt that lives, or whose end is issued
 pub entering_marks : (c : ContainerId) (row : AppRow) (current : Current) (v : ContainerView) → row.current ≡ Some current → (is_alive current.state || is_ending current.state) ≡ true
@@ -151,15 +142,11 @@ same_counted : (current : Current) (new : ContainerId) → (is_alive current.sta
 same_counted current new a = by current.state refl
   where
     by : (s : AttemptState) → current.state ≡ s → granted new current ≡ record current { granted = new.seq }
-    by attempts.Scheduled e = absurd (let x = rw e at a in cc)
-    by attempts.Granted e = absurd (let x = rw e at a in cc)
-    by attempts.Saving e = absurd (let x = rw e at a in cc)
     by attempts.Live e = rw e refl
     by attempts.Registered e = rw e refl
     by attempts.Finishing e = rw e refl
     by attempts.Ending e = rw e refl
-    by attempts.Ended e = absurd (let x = rw e at a in cc)
-    by attempts.Dropped e = absurd (let x = rw e at a in cc)
+    by _ e = absurd (let x = rw e at a in cc)
 
 number_counted : (c : ContainerId) (b : Bool) (current : Current) (n : ℕ) (v : ContainerView) → ContainerByNumber c b current v → ContainerByNumber c b (record current { granted = n }) v
 number_counted c true current n v says = says

@@ -26,15 +26,10 @@ Alive s = (s ≡ attempts.Live) ⊎ (s ≡ attempts.Registered) ⊎ (s ≡ attem
 
 -- it does where the tables say so
 pub alive_by : (s : AttemptState) → is_alive s ≡ true → Alive s
-alive_by attempts.Scheduled e = cc
-alive_by attempts.Granted e = cc
-alive_by attempts.Saving e = cc
 alive_by attempts.Live e = inl refl
 alive_by attempts.Registered e = inr (inl refl)
 alive_by attempts.Finishing e = inr (inr refl)
-alive_by attempts.Ending e = cc
-alive_by attempts.Ended e = cc
-alive_by attempts.Dropped e = cc
+alive_by _ e = cc
 
 -- what the record of one that lives names
 pub record OwnMaster (h : History) (t : Tables) (id : AttemptId) : Type 0 where

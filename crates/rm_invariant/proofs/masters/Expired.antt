@@ -53,14 +53,11 @@ module _ (settings : Settings) (h : History) (t : Tables) (k : AppsInvariant set
       may : (d : ContainerId) (one : AppRow) (current : Current) → row ≡ Some one → one.current ≡ Some current → (current.number == d.attempt.number) ≡ true → (s : AttemptState) → current.state ≡ s → (m : Bool)
           → MayGo s m false false false (expiring d) (finished d) (container_view h (main_popped t) d).finishing
       may d one current is at_ n attempts.Granted st m = λ e. refl
-      may d one current is at_ n attempts.Scheduled st m = tt
       may d one current is at_ n attempts.Saving st m = λ e. refl
       may d one current is at_ n attempts.Live st m = let a = alive_may d one current is at_ n (rw st refl) in (λ e. refl, refl, a.0, λ f. a.1)
       may d one current is at_ n attempts.Registered st m = let a = alive_may d one current is at_ n (rw st refl) in (λ e. refl, refl, a.0, λ f. a.1)
       may d one current is at_ n attempts.Finishing st m = let a = alive_may d one current is at_ n (rw st refl) in (λ e. refl, refl, a.0, λ f. a.1)
-      may d one current is at_ n attempts.Ending st m = tt
-      may d one current is at_ n attempts.Ended st m = tt
-      may d one current is at_ n attempts.Dropped st m = tt
+      may d one current is at_ n _ st m = tt
 
   end : (row : AppRow) (found : row_of t.rows id.app ≡ Some row) (current : Current) (is : row.current ≡ Some current) (st : Alive current.state) (n : (current.number == id.number) ≡ true) (how : How) (text : List ℕ) → EndsFor (abstract_scene h t) id how text
       → PreservesContainers settings h t (Issued (ops.AttemptEnd id how text)) h (main_popped (attempt_ends id how text t))
@@ -141,14 +138,11 @@ module _ (settings : Settings) (h : History) (t : Tables) (k : AppsInvariant set
 
       may : (d : ContainerId) (s : AttemptState) (m : Bool) → ((container_view h (main_popped t) d).finishing ≡ true → is_attempt id d.attempt ≡ false) → MayGo s m false false false false (is_attempt id d.attempt) (container_view h (main_popped t) d).finishing
       may d attempts.Granted m f = λ e. refl
-      may d attempts.Scheduled m f = tt
       may d attempts.Saving m f = λ e. refl
       may d attempts.Live m f = (λ e. refl, refl, refl, f)
       may d attempts.Registered m f = (λ e. refl, refl, refl, f)
       may d attempts.Finishing m f = (λ e. refl, refl, refl, f)
-      may d attempts.Ending m f = tt
-      may d attempts.Ended m f = tt
-      may d attempts.Dropped m f = tt
+      may d _ m f = tt
 
   finished_cases : (row : Option AppRow) → row_of t.rows id.app ≡ row → PreservesContainersTo settings h t (main_worked (finish_of_row row id t))
   finished_cases None found = no_master None found (λ one current is at_. cc)

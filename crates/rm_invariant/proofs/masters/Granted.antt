@@ -29,12 +29,8 @@ use Rattle.rm_invariant.proofs.masters.Effects.{main_taken, op_issued, sched_pos
 use Rattle.rm_invariant.proofs.masters.Tests.{and_right, not_both, or_false}
 
 pub under_app : (id : AttemptId) (op : Op) → is_attempt_op id op ≡ true → is_attempt_op_of id.app op ≡ true
-under_app id (ops.Epoch next stamp) e = cc
-under_app id (ops.App one submission) e = cc
 under_app id (ops.Attempt one master node) e = grind (arith, nat_tests)
-under_app id (ops.AttemptEnd one how text) e = cc
-under_app id (ops.AppEnd one how text) e = cc
-under_app id (ops.Remove one) e = cc
+under_app id _ e = cc
 
 -- why the Attempt may be issued
 pub issue_lawful : (settings : Settings) (h : History) (t : Tables) (c : ContainerId) (node : List ℕ) (row : AppRow) (current : Current) → t.is_open ≡ true → current.number ≡ c.attempt.number
@@ -181,14 +177,11 @@ module _ (settings : Settings) (h : History) (t : Tables) (k : AppsInvariant set
               let z = not_both (current.number == c.attempt.number) (is_master_of c current.master) (not_it one current is at_ st) here in
               absurd (let w : is_master_of d current.master ≡ false = rw (← y) z in cc)
           by false x e = refl
-      may d one current is at_ n attempts.Scheduled st m o = tt
       may d one current is at_ n attempts.Saving st m o = λ e. refl
       may d one current is at_ n attempts.Live st m o = (λ e. refl, refl, refl, λ f. refl)
       may d one current is at_ n attempts.Registered st m o = (λ e. refl, refl, refl, λ f. refl)
       may d one current is at_ n attempts.Finishing st m o = (λ e. refl, refl, refl, λ f. refl)
-      may d one current is at_ n attempts.Ending st m o = tt
-      may d one current is at_ n attempts.Ended st m o = tt
-      may d one current is at_ n attempts.Dropped st m o = tt
+      may d one current is at_ n _ st m o = tt
 
   quiet_step : (row : Option AppRow) → row_of t.rows c.attempt.app ≡ row → IsNotIt row → GrantedSteps (main_quiet t)
   quiet_step row found not_it =

@@ -84,16 +84,10 @@ module _ (settings : Settings) (h : History) (t : Tables) (k : AppsInvariant set
 ended_open : (how : How) (s : AppState) → is_active s ≡ true → is_final (after_failure how s) ≡ false
 ended_open ways.Finished s a = active_unended s a
 ended_open ways.Killed s a = active_unended s a
-ended_open ways.Failed apps.Accepted a = refl
-ended_open ways.Failed apps.Running a = refl
-ended_open ways.Failed apps.Killing a = refl
-ended_open ways.Failed apps.New a = refl
-ended_open ways.Failed apps.NewSaving a = refl
-ended_open ways.Failed apps.Submitted a = refl
-ended_open ways.Failed apps.FinalSaving a = refl
 ended_open ways.Failed apps.Finished a = cc
 ended_open ways.Failed apps.Failed a = cc
 ended_open ways.Failed apps.Killed a = cc
+ended_open ways.Failed _ a = refl
 
 -- the record with that end
 abbrev with_ended : AttemptId → How → List ℕ → AppRecord → AppRecord
@@ -189,14 +183,7 @@ drops id c (Some current) = drops_at (is_dropped current.state) (record { app = 
 -- what is posted of it
 dropped_count : (c : ContainerId) (id : AttemptId) (s : AttemptState) (xs : List SchedEvent) → count_by (is_attempt_removal c) (xs ++ dropped_at s id) ≡ one_if (drops_at (is_dropped s) id c) (count_by (is_attempt_removal c) xs)
 dropped_count c id attempts.Dropped xs = at_end (is_attempt_removal c) xs (scheds.AttemptRemoved id)
-dropped_count c id attempts.Scheduled xs = rw (append-nil xs) refl
-dropped_count c id attempts.Granted xs = rw (append-nil xs) refl
-dropped_count c id attempts.Saving xs = rw (append-nil xs) refl
-dropped_count c id attempts.Live xs = rw (append-nil xs) refl
-dropped_count c id attempts.Registered xs = rw (append-nil xs) refl
-dropped_count c id attempts.Finishing xs = rw (append-nil xs) refl
-dropped_count c id attempts.Ending xs = rw (append-nil xs) refl
-dropped_count c id attempts.Ended xs = rw (append-nil xs) refl
+dropped_count c id _ xs = rw (append-nil xs) refl
 
 posted_count : (c : ContainerId) (id : AppId) (o : Option Current) (xs : List SchedEvent) → count_by (is_attempt_removal c) (xs ++ dropped_of o id) ≡ one_if (drops id c o) (count_by (is_attempt_removal c) xs)
 posted_count c id None xs = rw (append-nil xs) refl

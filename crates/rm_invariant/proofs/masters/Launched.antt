@@ -28,12 +28,8 @@ use Rattle.rm_invariant.proofs.masters.Effects.{main_taken}
 use Rattle.rm_invariant.proofs.masters.Tests.{and_right, not_both}
 
 pub under_end : (id : AttemptId) (op : Op) → is_attempt_end_op id op ≡ true → is_attempt_end_op_of id.app op ≡ true
-under_end id (ops.Epoch next stamp) e = cc
-under_end id (ops.App one submission) e = cc
-under_end id (ops.Attempt one master node) e = cc
 under_end id (ops.AttemptEnd one how text) e = grind (arith, nat_tests)
-under_end id (ops.AppEnd one how text) e = cc
-under_end id (ops.Remove one) e = cc
+under_end id _ e = cc
 
 -- where the master that a row names stands, as the judge has it
 abbrev place_told : List Row → Option ContainerId → Option (List ℕ)
@@ -217,14 +213,11 @@ module _ (settings : Settings) (h : History) (t : Tables) (k : AppsInvariant set
       may : (d : ContainerId) (one : AppRow) (current : Current) → row ≡ Some one → one.current ≡ Some current → (current.number == d.attempt.number) ≡ true → (s : AttemptState) → current.state ≡ s → (m : Bool)
           → MayGo s m false false (is_attempt id d.attempt) false false (container_view h (main_popped t) d).finishing
       may d one current is at_ n attempts.Granted st m = λ e. refl
-      may d one current is at_ n attempts.Scheduled st m = tt
       may d one current is at_ n attempts.Saving st m = λ e. refl
       may d one current is at_ n attempts.Live st m = (λ e. refl, gone d one current is at_ n (rw st refl) (is_attempt id d.attempt) refl, refl, λ f. refl)
       may d one current is at_ n attempts.Registered st m = (λ e. refl, gone d one current is at_ n (rw st refl) (is_attempt id d.attempt) refl, refl, λ f. refl)
       may d one current is at_ n attempts.Finishing st m = (λ e. refl, gone d one current is at_ n (rw st refl) (is_attempt id d.attempt) refl, refl, λ f. refl)
-      may d one current is at_ n attempts.Ending st m = tt
-      may d one current is at_ n attempts.Ended st m = tt
-      may d one current is at_ n attempts.Dropped st m = tt
+      may d one current is at_ n _ st m = tt
 
   launched_cases : (row : Option AppRow) → row_of t.rows id.app ≡ row → LaunchedSteps (launch_of_row row id t)
   launched_cases None found = quiet_step None found (λ one current is at_. cc)

@@ -101,15 +101,12 @@ module _ (settings : Settings) (h : History) (t : Tables) (k : AppsInvariant set
           past_dead h t q (past_but (record { app = q.app; number = current.number }) q (attempts_in (record_of t.tree.apps q.app)) apart g.4)
 
       by : (s : AttemptState) → CurrentInvariant settings s (record { app = q.app; number = current.number }) row.wish here → is_live (abstract_scene h t) q ≡ false
-      by attempts.Scheduled says = stopped_dead says.0
-      by attempts.Granted says = stopped_dead says.0
-      by attempts.Saving says = stopped_dead says.0
       by attempts.Live says = goes says.0
       by attempts.Registered says = goes says.0
       by attempts.Finishing says = goes says.0
       by attempts.Ending says = goes says.0
-      by attempts.Ended says = stopped_dead says.0
       by attempts.Dropped says = absurd says
+      by _ says = stopped_dead says.0
 
   -- of the current one
   own_live : (row : AppRow) (current : Current) (s : AttemptState) → (current.number == q.number) ≡ true → CurrentInvariant settings s (record { app = q.app; number = current.number }) row.wish here → AttemptCounts q.number true s row.wish here
@@ -128,9 +125,6 @@ module _ (settings : Settings) (h : History) (t : Tables) (k : AppsInvariant set
           rw (kept, ended, unended) refl
 
       by : (s : AttemptState) → CurrentInvariant settings s (record { app = q.app; number = current.number }) row.wish here → AttemptCounts q.number true s row.wish here → is_live (abstract_scene h t) q ≡ is_alive s
-      by attempts.Scheduled says own = stopped_dead says.0
-      by attempts.Granted says own = stopped_dead says.0
-      by attempts.Saving says own = stopped_dead says.0
       by attempts.Live says own = lives says.0 says.1
       by attempts.Registered says own = lives says.0 says.1
       by attempts.Finishing says own = lives says.0 says.1
@@ -141,8 +135,8 @@ module _ (settings : Settings) (h : History) (t : Tables) (k : AppsInvariant set
           let some : list_any (is_own_op q) t.awaiting ≡ true = some_passes (is_own_op q) t.awaiting (omega (arith, mine)) in
           let none : list_any (is_attempt_op q) t.awaiting ≡ false = none_under (is_attempt_op_of q.app) (is_attempt_op q) (under_app q) t.awaiting (omega (arith, ends, one)) in
           ending_dead h t q (end_awaits_here q t.awaiting some none)
-      by attempts.Ended says own = stopped_dead says.0
       by attempts.Dropped says own = absurd says
+      by _ says own = stopped_dead says.0
 
   active_live : (row : AppRow) (c : Option Current) → ActiveInvariant settings q c row.wish here → is_live (abstract_scene h t) q ≡ lives_with q c
   active_live row None says = absurd says

@@ -92,14 +92,11 @@ module _ (settings : Settings) (h : History) (t : Tables) (k : AppsInvariant set
       may : (d : ContainerId) (one : AppRow) (current : Current) → row ≡ Some one → one.current ≡ Some current → (current.number == d.attempt.number) ≡ true → (s : AttemptState) → current.state ≡ s
           → MayGo s (is_master_of d current.master) false (is_container c d) false false false (container_view h (main_popped t) d).finishing
       may d one current is at_ n attempts.Granted st = λ e. refl
-      may d one current is at_ n attempts.Scheduled st = tt
       may d one current is at_ n attempts.Saving st = λ e. gone d one current is at_ n (inl st) e (is_container c d) refl
       may d one current is at_ n attempts.Live st = (λ e. gone d one current is at_ n (inr (inl st)) e (is_container c d) refl, refl, refl, λ f. refl)
       may d one current is at_ n attempts.Registered st = (λ e. gone d one current is at_ n (inr (inr (inl st))) e (is_container c d) refl, refl, refl, λ f. refl)
       may d one current is at_ n attempts.Finishing st = (λ e. gone d one current is at_ n (inr (inr (inr st))) e (is_container c d) refl, refl, refl, λ f. refl)
-      may d one current is at_ n attempts.Ending st = tt
-      may d one current is at_ n attempts.Ended st = tt
-      may d one current is at_ n attempts.Dropped st = tt
+      may d one current is at_ n _ st = tt
 
   same_current : (row one : AppRow) (current other : Current) → row.current ≡ Some current → Some row ≡ Some one → one.current ≡ Some other → other ≡ current
   same_current row one current other is x y = let u : one ≡ row = cc in let w : Some other ≡ Some current = sym y ∙ ap (λ (r : AppRow). r.current) u ∙ is in cc
@@ -123,15 +120,12 @@ module _ (settings : Settings) (h : History) (t : Tables) (k : AppsInvariant set
       at_state current is attempts.Live st true e = record { next = h; joins = alive_step row found current is (and_first (current.number == c.attempt.number) (is_master_of c current.master) e) (and_right (current.number == c.attempt.number) (is_master_of c current.master) e) (inl st) }
       at_state current is attempts.Registered st true e = record { next = h; joins = alive_step row found current is (and_first (current.number == c.attempt.number) (is_master_of c current.master) e) (and_right (current.number == c.attempt.number) (is_master_of c current.master) e) (inr (inl st)) }
       at_state current is attempts.Finishing st true e = record { next = h; joins = alive_step row found current is (and_first (current.number == c.attempt.number) (is_master_of c current.master) e) (and_right (current.number == c.attempt.number) (is_master_of c current.master) e) (inr (inr st)) }
-      at_state current is attempts.Saving st false e = not_it current is false e (inl refl)
-      at_state current is attempts.Live st false e = not_it current is false e (inl refl)
-      at_state current is attempts.Registered st false e = not_it current is false e (inl refl)
-      at_state current is attempts.Finishing st false e = not_it current is false e (inl refl)
       at_state current is attempts.Scheduled st b e = not_it current is b e (inr (λ x. other current attempts.Scheduled st (λ u. cc) (λ u. cc) (λ u. cc) (λ u. cc) x))
       at_state current is attempts.Granted st b e = not_it current is b e (inr (λ x. other current attempts.Granted st (λ u. cc) (λ u. cc) (λ u. cc) (λ u. cc) x))
       at_state current is attempts.Ending st b e = not_it current is b e (inr (λ x. other current attempts.Ending st (λ u. cc) (λ u. cc) (λ u. cc) (λ u. cc) x))
       at_state current is attempts.Ended st b e = not_it current is b e (inr (λ x. other current attempts.Ended st (λ u. cc) (λ u. cc) (λ u. cc) (λ u. cc) x))
       at_state current is attempts.Dropped st b e = not_it current is b e (inr (λ x. other current attempts.Dropped st (λ u. cc) (λ u. cc) (λ u. cc) (λ u. cc) x))
+      at_state current is _ st false e = not_it current is false e (inl refl)
 
       with_current : (o : Option Current) → row.current ≡ o → LostSteps (loss_of_current o c t)
       with_current None is = quiet_step (Some row) found (λ one current x y. absurd (let u : one ≡ row = cc in let w : Some current ≡ None = sym y ∙ ap (λ (r : AppRow). r.current) u ∙ is in cc))

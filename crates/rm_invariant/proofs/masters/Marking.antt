@@ -120,15 +120,13 @@ module _ (c : ContainerId) (v : ContainerView) (granting losing launching expiri
       (says.0, says.1, says.2, says.3, says.4, says.5, (λ f. let e = may.3 f in let n = says.6 f in rw e at n), λ o. let e = may.0 o in let n = says.7 o in rw e at n)
 
   own_goes : (s : AttemptState) (lost m : Bool) → MayGo s m granting losing launching expiring finished v.finishing → ContainerByState c s lost m with_events → ContainerByState c s lost m v
-  own_goes attempts.Scheduled lost m may says = grind (arith, nat_tests)
-  own_goes attempts.Granted lost m may says = grind (arith, nat_tests)
-  own_goes attempts.Saving lost m may says = grind (arith, nat_tests)
   own_goes attempts.Live lost m may says = alive_by launching expiring lost m may says
   own_goes attempts.Registered lost m may says = alive_by launching expiring lost m may says
   own_goes attempts.Finishing lost m may says = alive_by launching expiring lost m may says
   own_goes attempts.Ending lost m may says = tt
   own_goes attempts.Ended lost m may says = says
   own_goes attempts.Dropped lost m may says = tt
+  own_goes _ lost m may says = grind (arith, nat_tests)
 
   untouched_goes : Untouched with_events → Untouched v
   untouched_goes says = grind arith

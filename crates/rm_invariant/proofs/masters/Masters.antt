@@ -58,12 +58,8 @@ module _ (settings : Settings) (h : History) (t : Tables) (k : AppsInvariant set
 
   -- the row's master is one, or needs not be told of
   pub is_master : (s : AttemptState) → current.state ≡ s → (is_masters (abstract_scene h t) c ≡ true) ⊎ IsTold s true true 0
-  is_master attempts.Scheduled st = inr tt
-  is_master attempts.Granted st = inr tt
   is_master attempts.Saving st = inl (saving_by (let x = (says (rw st refl)).0 in rw st at x))
   is_master attempts.Live st = inl (alive_by (inl st) (let x = (says (rw st refl)).0 in let y = rw st at x in y.0.0))
   is_master attempts.Registered st = inl (alive_by (inr (inl st)) (let x = (says (rw st refl)).0 in let y = rw st at x in y.0.0))
   is_master attempts.Finishing st = inl (alive_by (inr (inr st)) (let x = (says (rw st refl)).0 in let y = rw st at x in y.0.0))
-  is_master attempts.Ending st = inr tt
-  is_master attempts.Ended st = inr tt
-  is_master attempts.Dropped st = inr tt
+  is_master _ st = inr tt

@@ -50,26 +50,18 @@ removed_marks c row v true none says = by row says (none refl)
 
 -- a MasterLost is posted of a master that has to be told of
 told_by : (s : AttemptState) (n : ℕ) → 1 ≤ n → IsTold s true true n
-told_by attempts.Scheduled n o = tt
-told_by attempts.Granted n o = tt
 told_by attempts.Saving n o = o
 told_by attempts.Live n o = o
 told_by attempts.Registered n o = o
 told_by attempts.Finishing n o = o
-told_by attempts.Ending n o = tt
-told_by attempts.Ended n o = tt
-told_by attempts.Dropped n o = tt
+told_by _ n o = tt
 
 told_none : (s : AttemptState) (n : ℕ) → IsTold s true true 0 → IsTold s true true n
-told_none attempts.Scheduled n o = tt
-told_none attempts.Granted n o = tt
 told_none attempts.Saving n o = absurd (omega (arith, o))
 told_none attempts.Live n o = absurd (omega (arith, o))
 told_none attempts.Registered n o = absurd (omega (arith, o))
 told_none attempts.Finishing n o = absurd (omega (arith, o))
-told_none attempts.Ending n o = tt
-told_none attempts.Ended n o = tt
-told_none attempts.Dropped n o = tt
+told_none _ n o = tt
 
 -- containers leave by an event that is the first of the scheduler's queue
 module _ (settings : Settings) (h : History) (t : Tables) (k : AppsInvariant settings h t) (all : ContainersInvariant h t) (each : RecordsAreSound t.tree.apps) (e : SchedEvent) (rest : List SchedEvent) (front : t.sched ≡ e ∷ rest)

@@ -1,7 +1,6 @@
 -- What the events of masters do to the facts of an application and its attempt of a number.
 use Rattle.rm_invariant.proofs.Common.{◌≡◌, ◌⊎◌, ℕ, suc, Bool, true, false, Option, Some, refl, arith, nat_tests, AttemptId, How, Settings, AppState, next_app_state, AttemptState, AppRow, Current, changed}
 use Rattle.std.proofs.Common.{◌==◌}
-use Rattle.rm_states.specs.declared.app.states.AppState.TheVariants as apps
 use Rattle.rm_states.specs.declared.app.states.AppEvent.{AppEvent}
 use Rattle.rm_states.specs.declared.app.states.AppEvent.TheVariants as app_events
 use Rattle.rm_states.specs.declared.attempt.states.AttemptState.TheVariants as attempts
@@ -107,13 +106,4 @@ module _ (settings : Settings) (q : AttemptId) (row : AppRow) (current : Current
 
 -- the end of an active application isn't kept
 pub active_unended : (s : AppState) → is_active s ≡ true → is_final s ≡ false
-active_unended apps.New a = refl
-active_unended apps.NewSaving a = refl
-active_unended apps.Submitted a = refl
-active_unended apps.Accepted a = refl
-active_unended apps.Running a = refl
-active_unended apps.Killing a = refl
-active_unended apps.FinalSaving a = refl
-active_unended apps.Finished a = cc
-active_unended apps.Failed a = cc
-active_unended apps.Killed a = cc
+active_unended s a = grind arith

@@ -2,7 +2,6 @@
 use Rattle.rm_invariant.proofs.Common.{◌≡◌, ◌<◌, ◌≤◌, ◌+◌, Bool, true, false, Option, None, Some, length, refl, arith, nat_tests, AppId, AttemptId, Submission, AppRecord, Settings, attempts_in, reaches_bound, AppState, AppRow, Current, Tables, found_in, next_in, end_with, last_end_in, row_of, History}
 use Rattle.std.proofs.Common.{◌==◌}
 use Rattle.rm_model.specs.Facts.{bound}
-use Rattle.rm_states.specs.declared.app.states.AppState.TheVariants as apps
 use Rattle.rm_states.specs.declared.attempt.states.AttemptState.TheVariants as attempts
 use Rattle.rm_invariant.specs.apps.Invariant.{ActiveInvariant, CurrentInvariant, RowInvariant, is_active}
 use Rattle.rm_invariant.specs.Step.{AppsInvariant}
@@ -12,16 +11,7 @@ use Rattle.rm_invariant.proofs.apps.Deciding.{done_facts, retry_facts}
 
 -- an application that goes on is active
 going_active : (s : AppState) → is_active s ≡ true → is_active s ≡ true
-going_active apps.New g = cc
-going_active apps.NewSaving g = cc
-going_active apps.Submitted g = cc
-going_active apps.Accepted g = refl
-going_active apps.Running g = refl
-going_active apps.Killing g = refl
-going_active apps.FinalSaving g = cc
-going_active apps.Finished g = cc
-going_active apps.Failed g = cc
-going_active apps.Killed g = cc
+going_active s g = grind arith
 
 -- no bound is above that of the settings
 bound_most : (settings : Settings) (s : Submission) → bound settings s ≤ settings.max_attempts

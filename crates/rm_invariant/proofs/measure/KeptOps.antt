@@ -28,14 +28,7 @@ few_dropped row id xs = by (dropped_by row id) (is_one row)
       where
         at_state : (s : AttemptState) (one : AttemptId) → (dropped_at s one ≡ []) ⊎ ((two : AttemptId) × (dropped_at s one ≡ scheds.AttemptRemoved two ∷ []))
         at_state attempts.Dropped one = inr (one, refl)
-        at_state attempts.Scheduled one = inl refl
-        at_state attempts.Granted one = inl refl
-        at_state attempts.Saving one = inl refl
-        at_state attempts.Live one = inl refl
-        at_state attempts.Registered one = inl refl
-        at_state attempts.Finishing one = inl refl
-        at_state attempts.Ending one = inl refl
-        at_state attempts.Ended one = inl refl
+        at_state _ one = inl refl
 
         at_current : (c : Option Current) → (dropped_of c id ≡ []) ⊎ ((one : AttemptId) × (dropped_of c id ≡ scheds.AttemptRemoved one ∷ []))
         at_current None = inl refl

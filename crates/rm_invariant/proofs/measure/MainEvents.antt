@@ -35,17 +35,7 @@ stopped_ends most row (inr (going, more)) = going_ends most row going
 -- each event weighs something
 one_weighs : (most : ℕ) (e : MainEvent) → 1 ≤ main_measure most e
 one_weighs most mains.EpochStart = omega arith
-one_weighs most (mains.AppStart id) = omega arith
-one_weighs most (mains.AppSaved id) = omega arith
-one_weighs most (mains.AppAccepted id) = omega arith
-one_weighs most (mains.AppKill id) = omega arith
-one_weighs most (mains.MasterGranted id) = omega arith
-one_weighs most (mains.AttemptSaved id) = omega arith
-one_weighs most (mains.MasterLost id) = omega arith
-one_weighs most (mains.AttemptExpired id) = omega arith
-one_weighs most (mains.AttemptFinish id) = omega arith
-one_weighs most (mains.AttemptDone id) = omega arith
-one_weighs most mains.Retire = omega arith
+one_weighs most _ = omega arith
 
 -- what holds of the event that is known to be first holds of the first one
 of_first : (P : MainEvent → Type 0) (main : List MainEvent) (known e : MainEvent) (behind rest : List MainEvent) → main ≡ known ∷ behind → main ≡ e ∷ rest → P known → P e

@@ -1,12 +1,6 @@
 -- A message of a client, of a master, of a node or of the clock adds little, whatever it is answered.
-use Rattle.rm_invariant.proofs.Common.{◌≡◌, ℕ, ◌+◌, ◌≤◌, List, [], ◌∷◌, ◌++◌, Bool, true, false, Option, None, Some, length, refl, ◌∙◌, arith, if◌then◌else◌, length-map, sum_by-append, sum_by-cons, Ask, BookRow, ContainerState, Acquired, Running, Closing, Held, AttemptId, ContainerId, ClientAsk, ClockAsk, MasterAsk, NodeAsk, Reply, Resource, is_some_and, BookOf, is_of, reported, NodeRow, AppRow, Current, Dialogue, Tables, changed, current_after, node_row, row_of, with_row, dialogue_begun, registered_row, said_row, told_row, with_answer, with_text, without_closings, after_client, submitted_row, taken_by, wished_by, acquired, acquired_row, after_master, allocated_with, is_new_to, registered, release_events, said, goes_on, spoken_by, after_clock, after_node, beat_events, beaten_book, is_next_beat, is_row_on, is_untold_row, registered_by}
-use Rattle.std.proofs.Common.{nat_lt}
+use Rattle.rm_invariant.proofs.Common.{◌≡◌, ℕ, ◌+◌, ◌≤◌, List, [], ◌∷◌, ◌++◌, Bool, true, false, Option, None, Some, length, refl, ◌∙◌, arith, if◌then◌else◌, length-map, sum_by-append, sum_by-cons, Ask, BookRow, ContainerState, Acquired, Running, Closing, Held, AttemptId, ContainerId, ClientAsk, ClockAsk, MasterAsk, NodeAsk, Reply, is_some_and, BookOf, is_of, reported, AppRow, Current, Dialogue, Tables, changed, current_after, dialogue_begun, registered_row, said_row, told_row, with_answer, with_text, without_closings, after_client, submitted_row, acquired, acquired_row, after_master, allocated_with, registered, release_events, said, after_clock, after_node, beat_events, beaten_book, is_row_on, is_untold_row, Message}
 use Rattle.std.specs.List.{sum_by}
-use Rattle.rm_types.specs.declared.messages.ClientAsk.TheVariants as clients
-use Rattle.rm_types.specs.declared.messages.ClockAsk.TheVariants as clocks
-use Rattle.rm_types.specs.declared.messages.MasterAsk.TheVariants as masters
-use Rattle.rm_types.specs.declared.messages.NodeAsk.TheVariants as nodes
-use Rattle.rm_types.specs.declared.replies.Reply.TheVariants as replies
 use Rattle.rm_book.specs.Books.{book_row as book_row_of, with_state}
 use Rattle.rm_tables.specs.declared.changes.AttemptChange.TheVariants as of_attempt
 use Rattle.rm_tables.specs.declared.changes.RowChange.TheVariants as of_app
@@ -18,6 +12,10 @@ use Rattle.rm_invariant.specs.messages.Ranges.{KeepsLimits}
 use Rattle.rm_invariant.specs.measure.Measure.{app_measure, current_measure, message_measure, current_number, row_measure, sched_measure, measure}
 use Rattle.rm_invariant.proofs.measure.Rows.{finish_weighs, row_most, wished_same}
 use Rattle.rm_invariant.proofs.measure.Sums.{main_push, row_joins, row_rises, sched_push}
+use Rattle.rm_types.specs.declared.messages.Message.TheVariants as messages
+use Rattle.rm_invariant.specs.messages.Outcomes.{MessageOutcome, after_message}
+use Rattle.rm_invariant.specs.messages.Outcomes as comes
+use Rattle.rm_invariant.proofs.messages.Outcomes.{message_outcome}
 
 -- what the row of an application weighs after its master finished, and after its master was told something
 said_rises : (most : ℕ) (talk : Option Dialogue → Option Dialogue) (row : AppRow) → row_measure most (said_row talk row) ≤ row_measure most row + 4
@@ -62,34 +60,6 @@ module _ (t : Tables) (limits : KeepsLimits t.settings) where
   stays : AddsLittle t
   stays = omega arith
 
-  -- of a client
-  client_adds : (ask : ClientAsk) (reply : Reply) → AddsLittle (after_client ask reply t)
-  client_adds clients.New (replies.New id) = omega arith
-  client_adds (clients.Submit id submission) replies.Submitted = by (row_of t.rows id)
-    where
-      by : (o : Option AppRow) → AddsLittle (taken_by o id submission t)
-      by None =
-          let posted = main_push t.settings.max_attempts t.main (mains.AppStart id) in
-          let row = row_joins t.settings.max_attempts id (submitted_row submission) t.rows in
-          omega (arith, posted, row, limits)
-      by (Some row) = stays
-  client_adds (clients.Kill id) replies.Killing = by (row_of t.rows id)
-    where
-      noted : AddsLittle (record t { rows = with_row (changed of_app.Wish) id t.rows; main = t.main ++ mains.AppKill id ∷ [] })
-      noted =
-          let posted = main_push t.settings.max_attempts t.main (mains.AppKill id) in
-          let rows = row_rises t.settings.max_attempts 0 (changed of_app.Wish) id t.rows (λ row. omega (arith, wished_same t.settings.max_attempts row)) in
-          omega (arith, posted, rows)
-
-      wishes : (row : AppRow) (b : Bool) → row.wish ≡ b → AddsLittle (wished_by (Some row) id t)
-      wishes row true e = rw e stays
-      wishes row false e = rw e noted
-
-      by : (o : Option AppRow) → AddsLittle (wished_by o id t)
-      by None = stays
-      by (Some row) = wishes row row.wish refl
-  client_adds _ _ = stays
-
   -- of a master
   finish_adds : (attempt : AttemptId) (text : List ℕ) → AddsLittle (said attempt text t)
   finish_adds attempt text =
@@ -114,29 +84,7 @@ module _ (t : Tables) (limits : KeepsLimits t.settings) where
       let posted = released attempt release in
       omega (arith, rows, long, posted)
 
-  master_adds : (attempt : AttemptId) (ask : MasterAsk) (reply : Reply) → AddsLittle (after_master attempt ask reply t)
-  master_adds attempt masters.Register replies.MasterRegistered = register_adds attempt replies.MasterRegistered
-  master_adds attempt (masters.Finish text) replies.Finishing = by (goes_on (spoken_by attempt (row_of t.rows attempt.app))) refl
-    where
-      by : (b : Bool) → goes_on (spoken_by attempt (row_of t.rows attempt.app)) ≡ b → AddsLittle (after_master attempt (masters.Finish text) replies.Finishing t)
-      by true e = rw e (finish_adds attempt text)
-      by false e = rw e stays
-  master_adds attempt (masters.Allocate id asks release) (replies.Allocated next grants ended) = by (is_new_to id (spoken_by attempt (row_of t.rows attempt.app))) refl
-    where
-      by : (b : Bool) → is_new_to id (spoken_by attempt (row_of t.rows attempt.app)) ≡ b → AddsLittle (after_master attempt (masters.Allocate id asks release) (replies.Allocated next grants ended) t)
-      by true e = rw e (allocate_adds attempt id asks release (replies.Allocated next grants ended))
-      by false e = rw e stays
-  master_adds attempt _ _ = stays
-
   -- of a node
-  registration_adds : (name : List ℕ) (turn : ℕ) (capability : Resource) (running : List Held) (reply : Reply) (o : Option NodeRow) → AddsLittle (registered_by o name turn capability running reply t)
-  registration_adds name turn capability running reply None = omega (arith, sched_push t.sched (scheds.NodeAdded name turn))
-  registration_adds name turn capability running reply (Some row) = by (nat_lt row.turn turn) refl
-    where
-      by : (b : Bool) → nat_lt row.turn turn ≡ b → AddsLittle (registered_by (Some row) name turn capability running reply t)
-      by true e = rw e (omega (arith, sched_push t.sched (scheds.NodeAdded name turn)))
-      by false e = rw e stays
-
   beat_posts : (name : List ℕ) (done : List ContainerId) → sum_by sched_measure (t.sched ++ beat_events name done) ≤ sum_by sched_measure t.sched + 770
   beat_posts name [] = omega (arith, sched_push t.sched (scheds.NodeUpdate name))
   beat_posts name (id ∷ done) =
@@ -150,31 +98,40 @@ module _ (t : Tables) (limits : KeepsLimits t.settings) where
       let long = beaten_long name (reported running) (launched_by reply) t.book in
       omega (arith, posted, long)
 
-  node_adds : (name : List ℕ) (ask : NodeAsk) (reply : Reply) → AddsLittle (after_node name ask reply t)
-  node_adds name (nodes.Register turn capability running) reply = registration_adds name turn capability running reply (node_row t.nodes name)
-  node_adds name (nodes.Beat id running done) (replies.Beat next launched clean) = by (is_next_beat id (node_row t.nodes name)) refl
-    where
-      by : (b : Bool) → is_next_beat id (node_row t.nodes name) ≡ b → AddsLittle (after_node name (nodes.Beat id running done) (replies.Beat next launched clean) t)
-      by true e = rw e (beat_adds name id running done (replies.Beat next launched clean))
-      by false e = rw e stays
-  node_adds name (nodes.Beat id running done) _ = stays
+  -- whatever it comes to
+  message_adds : (message : Message) (reply : Reply) (next : Tables) → MessageOutcome t message reply next → AddsLittle next
+  message_adds message reply next (comes.idles one other) = stays
+  message_adds message reply next (comes.gives user id) = omega arith
+  message_adds message reply next (comes.joins user id submission found) =
+      let posted = main_push t.settings.max_attempts t.main (mains.AppStart id) in
+      let row = row_joins t.settings.max_attempts id (submitted_row submission) t.rows in
+      omega (arith, posted, row, limits)
+  message_adds message reply next (comes.wishes user id row found new) =
+      let posted = main_push t.settings.max_attempts t.main (mains.AppKill id) in
+      let rows = row_rises t.settings.max_attempts 0 (changed of_app.Wish) id t.rows (λ row. omega (arith, wished_same t.settings.max_attempts row)) in
+      omega (arith, posted, rows)
+  message_adds message reply next (comes.registers attempt answer so) = register_adds attempt answer
+  message_adds message reply next (comes.finishes attempt text goes) = finish_adds attempt text
+  message_adds message reply next (comes.allocates attempt id asks release answer so new) = allocate_adds attempt id asks release answer
+  message_adds message reply next (comes.appears name turn capability running one found) = omega (arith, sched_push t.sched (scheds.NodeAdded name turn))
+  message_adds message reply next (comes.returns name turn capability running one row found later) = omega (arith, sched_push t.sched (scheds.NodeAdded name turn))
+  message_adds message reply next (comes.beats name id running done answer so new) = beat_adds name id running done answer
+  message_adds message reply next (comes.ticks time) = omega arith
+  message_adds message reply next (comes.loses name) = omega (arith, sched_push t.sched (scheds.NodeLost name))
+  message_adds message reply next (comes.expires attempt) = omega (arith, main_push t.settings.max_attempts t.main (mains.AttemptExpired attempt))
 
-  -- of the clock
-  clock_adds : (ask : ClockAsk) (reply : Reply) → AddsLittle (after_clock ask reply t)
-  clock_adds (clocks.Tick time) replies.Ok = omega arith
-  clock_adds (clocks.ExpireNode name) replies.Ok = omega (arith, sched_push t.sched (scheds.NodeLost name))
-  clock_adds (clocks.ExpireMaster attempt) replies.Ok = omega (arith, main_push t.settings.max_attempts t.main (mains.AttemptExpired attempt))
-  clock_adds _ _ = stays
+  message_weighs : (message : Message) (reply : Reply) (served : ℕ) → measure (record (after_message message reply t) { served = served }) ≤ measure t + message_measure
+  message_weighs message reply served = message_adds message reply (after_message message reply t) (message_outcome t message reply)
 
   -- and so with the number of messages that were served
   pub client_weighs : (ask : ClientAsk) (reply : Reply) (served : ℕ) → measure (record (after_client ask reply t) { served = served }) ≤ measure t + message_measure
-  client_weighs ask reply served = client_adds ask reply
+  client_weighs ask reply served = message_weighs (messages.Client [] ask) reply served
 
   pub master_weighs : (attempt : AttemptId) (ask : MasterAsk) (reply : Reply) (served : ℕ) → measure (record (after_master attempt ask reply t) { served = served }) ≤ measure t + message_measure
-  master_weighs attempt ask reply served = master_adds attempt ask reply
+  master_weighs attempt ask reply served = message_weighs (messages.Master attempt ask) reply served
 
   pub node_weighs : (name : List ℕ) (ask : NodeAsk) (reply : Reply) (served : ℕ) → measure (record (after_node name ask reply t) { served = served }) ≤ measure t + message_measure
-  node_weighs name ask reply served = node_adds name ask reply
+  node_weighs name ask reply served = message_weighs (messages.Node name ask) reply served
 
   pub clock_weighs : (ask : ClockAsk) (reply : Reply) (served : ℕ) → measure (record (after_clock ask reply t) { served = served }) ≤ measure t + message_measure
-  clock_weighs ask reply served = clock_adds ask reply
+  clock_weighs ask reply served = message_weighs (messages.Clock ask) reply served

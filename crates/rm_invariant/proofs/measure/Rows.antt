@@ -15,27 +15,10 @@ use Rattle.rm_invariant.specs.measure.Measure.{app_end_measure, app_measure, att
 
 -- the most that an application, an attempt and a row weigh
 pub app_most : (most : ℕ) (s : AppState) (number : ℕ) → app_measure most s number ≤ untried_measure most
-app_most most apps.New number = omega arith
-app_most most apps.NewSaving number = omega arith
-app_most most apps.Submitted number = omega arith
-app_most most apps.Accepted number = omega arith
-app_most most apps.Running number = omega arith
-app_most most apps.Killing number = omega arith
-app_most most apps.FinalSaving number = omega arith
-app_most most apps.Finished number = omega arith
-app_most most apps.Failed number = omega arith
-app_most most apps.Killed number = omega arith
+app_most most s number = grind arith
 
 pub attempt_most : (s : AttemptState) → attempt_measure s ≤ attempt_op_measure
-attempt_most attempts.Scheduled = omega arith
-attempt_most attempts.Granted = omega arith
-attempt_most attempts.Saving = omega arith
-attempt_most attempts.Live = omega arith
-attempt_most attempts.Registered = omega arith
-attempt_most attempts.Finishing = omega arith
-attempt_most attempts.Ending = omega arith
-attempt_most attempts.Ended = omega arith
-attempt_most attempts.Dropped = omega arith
+attempt_most s = grind arith
 
 pub current_most : (c : Option Current) → current_measure c ≤ attempt_op_measure
 current_most None = omega arith
@@ -46,62 +29,21 @@ row_most most row = omega (arith, app_most most row.state (current_number row.cu
 
 -- an application that goes on, by the number of its current attempt
 pub going_weighs : (most : ℕ) (s : AppState) (number : ℕ) → is_active s ≡ true → app_measure most s number ≡ app_end_measure + next_measure * (most - number)
-going_weighs most apps.New number g = cc
-going_weighs most apps.NewSaving number g = cc
-going_weighs most apps.Submitted number g = cc
-going_weighs most apps.Accepted number g = refl
-going_weighs most apps.Running number g = refl
-going_weighs most apps.Killing number g = refl
-going_weighs most apps.FinalSaving number g = cc
-going_weighs most apps.Finished number g = cc
-going_weighs most apps.Failed number g = cc
-going_weighs most apps.Killed number g = cc
+going_weighs most s number g = grind arith
 
 -- an attempt that lives weighs its end
 pub alive_weighs : (s : AttemptState) → is_alive s ≡ true → attempt_measure s ≡ attempt_end_measure
-alive_weighs attempts.Scheduled a = cc
-alive_weighs attempts.Granted a = cc
-alive_weighs attempts.Saving a = cc
-alive_weighs attempts.Live a = refl
-alive_weighs attempts.Registered a = refl
-alive_weighs attempts.Finishing a = refl
-alive_weighs attempts.Ending a = cc
-alive_weighs attempts.Ended a = cc
-alive_weighs attempts.Dropped a = cc
+alive_weighs s a = grind arith
 
 -- one that lives ends where its application is killed, and one that is being saved, ends or has ended stays as it is
 pub killed_weighs : (s : AttemptState) → is_alive s ≡ true → attempt_measure (killed_state s) ≡ 0
-killed_weighs attempts.Scheduled a = cc
-killed_weighs attempts.Granted a = cc
-killed_weighs attempts.Saving a = cc
-killed_weighs attempts.Live a = refl
-killed_weighs attempts.Registered a = refl
-killed_weighs attempts.Finishing a = refl
-killed_weighs attempts.Ending a = cc
-killed_weighs attempts.Ended a = cc
-killed_weighs attempts.Dropped a = cc
+killed_weighs s a = grind arith
 
 pub waiting_weighs : (s : AttemptState) → is_past_grant s ≡ true → attempt_measure (killed_state s) ≡ attempt_measure s
-waiting_weighs attempts.Scheduled a = cc
-waiting_weighs attempts.Granted a = cc
-waiting_weighs attempts.Saving a = refl
-waiting_weighs attempts.Live a = cc
-waiting_weighs attempts.Registered a = cc
-waiting_weighs attempts.Finishing a = cc
-waiting_weighs attempts.Ending a = refl
-waiting_weighs attempts.Ended a = refl
-waiting_weighs attempts.Dropped a = cc
+waiting_weighs s a = grind arith
 
 dropped_weighs : (s : AttemptState) → attempt_measure (dropped_state s) ≤ attempt_measure s
-dropped_weighs attempts.Scheduled = omega arith
-dropped_weighs attempts.Granted = omega arith
-dropped_weighs attempts.Saving = omega arith
-dropped_weighs attempts.Live = omega arith
-dropped_weighs attempts.Registered = omega arith
-dropped_weighs attempts.Finishing = omega arith
-dropped_weighs attempts.Ending = omega arith
-dropped_weighs attempts.Ended = omega arith
-dropped_weighs attempts.Dropped = omega arith
+dropped_weighs s = grind arith
 
 -- a grant is nothing to what is left of an attempt
 pub grant_weighs : (container : ContainerId) (current : Current) → attempt_measure (granted container current).state ≡ attempt_measure current.state
@@ -109,28 +51,13 @@ grant_weighs container current = by current.state refl
   where
     by : (s : AttemptState) → current.state ≡ s → attempt_measure (granted_at s container current).state ≡ attempt_measure current.state
     by attempts.Scheduled e = rw e refl
-    by attempts.Granted e = refl
-    by attempts.Saving e = refl
-    by attempts.Live e = refl
-    by attempts.Registered e = refl
-    by attempts.Finishing e = refl
-    by attempts.Ending e = refl
-    by attempts.Ended e = refl
-    by attempts.Dropped e = refl
+    by _ e = refl
 
 grant_numbers : (container : ContainerId) (current : Current) → (granted container current).number ≡ current.number
 grant_numbers container current = by current.state
   where
     by : (s : AttemptState) → (granted_at s container current).number ≡ current.number
-    by attempts.Scheduled = refl
-    by attempts.Granted = refl
-    by attempts.Saving = refl
-    by attempts.Live = refl
-    by attempts.Registered = refl
-    by attempts.Finishing = refl
-    by attempts.Ending = refl
-    by attempts.Ended = refl
-    by attempts.Dropped = refl
+    by s = grind arith
 
 -- what an event does to what an application weighs
 module _ (most number : ℕ) (s : AppState) where

@@ -6,8 +6,6 @@ use Rattle.rm_types.specs.declared.replies.Reply.TheVariants.{Ok, Unknown}
 use Rattle.rm_model.specs.NodeReplies.{clock_reply, may_expire}
 use Rattle.rm_model.specs.Nodes.{is_ready, with_judged_node as with_told}
 use Rattle.rm_model.specs.State.{NodeState}
-use Rattle.rm_states.specs.declared.node.states.NodeState.TheVariants as states
-use Rattle.rm_states.specs.declared.node.states.NodeEvent.TheVariants as node_events
 use Rattle.rm_tables.specs.declared.events.MainEvent.TheVariants as mains
 use Rattle.rm_tables.specs.declared.events.SchedEvent.TheVariants as scheds
 use Rattle.rm_tables.specs.declared.nodes.NodeChange.TheVariants as of_node

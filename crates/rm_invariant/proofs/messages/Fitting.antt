@@ -1,6 +1,6 @@
 -- The current attempt of an application is the last recorded one, or the next one, with whose master nobody spoke: each event of both queues
 -- keeps it.
-use Rattle.rm_invariant.proofs.Common.{◌≡◌, ℕ, ◌≤◌, ◌⊎◌, inl, inr, List, [], ◌∷◌, Bool, true, false, ◌||◌, Option, None, Some, length, fold, refl, sym, ◌∙◌, ap, subst, arith, false≢true, or_right, Closing, Grant, AppId, AttemptId, ContainerId, AppRecord, AttemptRecord, Settings, is_app, is_nil, is_some_and, last_attempt, record_of, same_app, has_failed, attempts_in, AttemptState, AttemptChange, RowChange, MainEvent, SchedEvent, AppRow, Current, Tables, main_worked, sched_worked, attempt_after, changed, current_after, granted_at, closed_in, main_step, rows_after_grant, row_of, with_row, sched_step, closings_for, History}
+use Rattle.rm_invariant.proofs.Common.{◌≡◌, ℕ, ◌≤◌, ◌⊎◌, inl, inr, List, [], ◌∷◌, Bool, true, false, Option, None, Some, length, fold, refl, sym, ◌∙◌, ap, subst, arith, false≢true, or_right, Closing, Grant, AppId, AttemptId, ContainerId, AppRecord, AttemptRecord, Settings, is_app, is_nil, is_some_and, last_attempt, record_of, same_app, has_failed, attempts_in, AttemptState, AttemptChange, RowChange, MainEvent, SchedEvent, AppRow, Current, Tables, main_worked, sched_worked, attempt_after, changed, current_after, granted_at, closed_in, main_step, rows_after_grant, row_of, with_row, sched_step, closings_for, History}
 use Rattle.std.proofs.Common.{option_map}
 use Rattle.rm_states.specs.declared.attempt.states.AttemptState.TheVariants as attempts
 use Rattle.rm_tables.specs.declared.changes.AttemptChange.TheVariants as of_attempt
@@ -16,7 +16,8 @@ use Rattle.rm_invariant.specs.Core.{PreservesCore}
 use Rattle.rm_invariant.proofs.events.Told.{rows_told, telling_more}
 use Rattle.rm_invariant.specs.messages.Fits.{FitsCurrent, EachRowFits}
 use Rattle.rm_invariant.specs.events.Outcomes.{Outcome}
-use Rattle.rm_invariant.proofs.messages.Shapes.{RowsAfter, RowsBy, SchedShape, Shape, main_shape, sched_shape}
+use Rattle.rm_invariant.proofs.messages.Shapes.{RowsBy, Shape, main_shape}
+use Rattle.rm_invariant.proofs.events.SchedShapes.{RowsAfter, SchedShape, sched_shape}
 
 -- an attempt is recorded
 abbrev pub is_recorded : AttemptState → Bool
@@ -85,12 +86,9 @@ module _ (settings : Settings) (q : AttemptId) (row : AppRow) (v : View) where
   current_fits current attempts.Scheduled says (inr recorded) = absurd (false≢true recorded)
   current_fits current attempts.Granted says (inr recorded) = absurd (false≢true recorded)
   current_fits current attempts.Saving says (inr recorded) = absurd (false≢true recorded)
-  current_fits current attempts.Live says either = goes_fit current says.0
-  current_fits current attempts.Registered says either = goes_fit current says.0
-  current_fits current attempts.Finishing says either = goes_fit current says.0
-  current_fits current attempts.Ending says either = goes_fit current says.0
   current_fits current attempts.Ended says either = inl (says.2, says.1)
   current_fits current attempts.Dropped says either = absurd says
+  current_fits current _ says either = goes_fit current says.0
 
   active_fits : RowInvariant settings q (Some row) v → is_active row.state ≡ true → (c : Option Current) → row.current ≡ c → (row.dialogue ≡ None) ⊎ (is_recorded_in c ≡ true) → FitsCurrent v.found row.dialogue c
   active_fits says active None is either = tt
@@ -134,25 +132,11 @@ rows_fit settings g t next k fit goes id now found = by (goes id now found)
 
 -- the number of an attempt stays, whatever happens to it
 granted_number : (s : AttemptState) (container : ContainerId) (was : Current) → (granted_at s container was).number ≡ was.number
-granted_number attempts.Scheduled container was = refl
-granted_number attempts.Granted container was = refl
-granted_number attempts.Saving container was = refl
-granted_number attempts.Live container was = refl
-granted_number attempts.Registered container was = refl
-granted_number attempts.Finishing container was = refl
-granted_number attempts.Ending container was = refl
-granted_number attempts.Ended container was = refl
-granted_number attempts.Dropped container was = refl
+granted_number s container was = grind arith
 
 attempt_number : (change : AttemptChange) (was : Current) → (attempt_after change was).number ≡ was.number
 attempt_number (of_attempt.Grant container) was = granted_number was.state container was
-attempt_number of_attempt.Requeue was = refl
-attempt_number of_attempt.Issue was = refl
-attempt_number of_attempt.Lose was = refl
-attempt_number of_attempt.Keep was = refl
-attempt_number of_attempt.Finish was = refl
-attempt_number (of_attempt.End how) was = refl
-attempt_number (of_attempt.KeepEnd how) was = refl
+attempt_number _ was = refl
 
 -- unless another attempt is scheduled
 abbrev pub schedules_none : RowChange → Bool
@@ -186,15 +170,8 @@ number_after (of_app.KeepEnd how) e (Some was) = refl
 number_after (of_app.OfAttempt change) e (Some was) = ap Some (attempt_number change was)
 
 silent_after : (change : RowChange) (row : AppRow) → row.dialogue ≡ None → (changed change row).dialogue ≡ None
-silent_after of_app.Issue row e = e
-silent_after of_app.Keep row e = e
-silent_after of_app.Wish row e = e
-silent_after of_app.Kill row e = e
 silent_after (of_app.Schedule number) row e = refl
-silent_after of_app.Register row e = e
-silent_after of_app.End row e = e
-silent_after (of_app.KeepEnd how) row e = e
-silent_after (of_app.OfAttempt change) row e = e
+silent_after _ row e = e
 
 pub change_same : (change : RowChange) (row : AppRow) → schedules_none change ≡ true → SameCurrent row (changed change row)
 change_same change row e = record { number = number_after change e row.current; silent = silent_after change row }
@@ -260,14 +237,7 @@ change_goes t next id change tree row found = by (schedules_none change) refl
   where
     scheduled : (change : RowChange) → schedules_none change ≡ false → RowGoes t next id (changed change row)
     scheduled (of_app.Schedule number) e = inr (inl (inr refl, inl refl))
-    scheduled of_app.Issue e = cc
-    scheduled of_app.Keep e = cc
-    scheduled of_app.Wish e = cc
-    scheduled of_app.Kill e = cc
-    scheduled of_app.Register e = cc
-    scheduled of_app.End e = cc
-    scheduled (of_app.KeepEnd how) e = cc
-    scheduled (of_app.OfAttempt change) e = cc
+    scheduled _ e = cc
 
     by : (b : Bool) → schedules_none change ≡ b → RowGoes t next id (changed change row)
     by true e = inr (inr (row, found, change_same change row e, rw tree refl))
@@ -287,15 +257,15 @@ main_fits settings h t fit e outcome s = rows_fit settings s.next t next s.whole
     by (inr one) = goes_with t next one.0 (changed one.1) one.2 (λ q e. let tree = shape.tree in rw tree refl) (change_goes t next one.0 one.1 shape.tree)
 
 pub sched_fits : (settings : Settings) (h : History) (t : Tables) → EachRowFits t → (e : SchedEvent) (list : List ContainerId) (s : PreservesCore settings h t (sched_worked (sched_step e list t))) → EachRowFits (sched_worked (sched_step e list t)).1
-sched_fits settings h t fit e list s = rows_fit settings s.next t next s.whole.keeps fit (same_goes t next (by next.rows shape.rows) shape.tree)
+sched_fits settings h t fit e list s = rows_fit settings s.next t next s.whole.keeps fit (same_goes t next (by next.rows shape.rows) (ap (λ (one : Tables). one.tree) shape.rest))
   where
     next : Tables
     next = (sched_worked (sched_step e list t)).1
 
     shape : SchedShape t (sched_step e list t)
-    shape = sched_shape t e list
+    shape = sched_shape t list e
 
     by : (rows : List (AppId × Option AppRow)) → RowsAfter t.rows rows → RowsSame t.rows rows
-    by rows (inl same) = subst (RowsSame t.rows) (sym same) (none_changed t.rows)
-    by rows (inr (inl closed)) = subst (RowsSame t.rows) (sym closed.1) (closed_same closed.0 t.rows)
-    by rows (inr (inr granted)) = subst (RowsSame t.rows) (sym granted.1) (granted_same granted.0 t.rows)
+    by rows RowsAfter.same = none_changed t.rows
+    by rows (RowsAfter.closed_so closings) = closed_same closings t.rows
+    by rows (RowsAfter.granted_so grants) = granted_same grants t.rows

@@ -1,15 +1,11 @@
 -- The current attempt of an application is the last recorded one, or the next one, with whose master nobody spoke: each message and each kept
 -- operation keeps it, and a life opens so.
-use Rattle.rm_invariant.proofs.Common.{◌&&◌, ◌≡◌, ℕ, ◌+◌, ◌≤◌, ◌⊎◌, drop, inl, inr, List, [], ◌∷◌, ◌++◌, Bool, true, false, Option, None, Some, map, length, refl, sym, ◌∙◌, ap, subst, arith, false≢true, Served, AppId, AttemptId, ContainerId, ClientAsk, ClockAsk, MasterAsk, NodeAsk, How, Op, Submission, AppRecord, AttemptRecord, Reply, Settings, is_app, last_attempt, new_record, record_of, with_end, app_itself, attempts_in, is_epoch_op, AppState, AttemptState, is_alive, lives_by, is_live, master_reply, register_reply, Scene, AppRow, Current, Dialogue, Tables, after_failure, changed, kept, recovered_attempt, recovered_row, recovered_rows, row_of, with_row, dialogue_begun, registered_row, said_row, told_row, with_answer, with_text, without_closings, after_client, submitted_row, taken_by, wished_by, after_master, allocated_with, is_new_to, registered, said, goes_on, spoken_by, after_clock, after_node, History, abstract_scene}
+use Rattle.rm_invariant.proofs.Common.{◌&&◌, ◌≡◌, ℕ, ◌+◌, ◌≤◌, ◌⊎◌, drop, inl, inr, List, [], ◌∷◌, ◌++◌, Bool, true, false, Option, None, Some, map, length, refl, sym, ◌∙◌, ap, subst, arith, false≢true, AppId, AttemptId, ContainerId, How, Op, Submission, AppRecord, AttemptRecord, Reply, Settings, is_app, last_attempt, new_record, record_of, with_end, app_itself, attempts_in, is_epoch_op, AppState, AttemptState, is_alive, lives_by, is_live, master_reply, AppRow, Current, Dialogue, Tables, after_failure, changed, kept, recovered_attempt, recovered_row, recovered_rows, row_of, dialogue_begun, registered_row, said_row, told_row, with_answer, with_text, without_closings, submitted_row, registered, History, abstract_scene, Message, Entry}
 use Rattle.std.proofs.Common.{◌==◌, option_map}
 use Rattle.rm_types.specs.declared.entries.Entry.TheVariants.{Kept}
-use Rattle.rm_types.specs.declared.messages.ClientAsk.TheVariants as clients
-use Rattle.rm_types.specs.declared.messages.MasterAsk.TheVariants as masters
 use Rattle.rm_types.specs.declared.messages.Message.TheVariants as messages
-use Rattle.rm_types.specs.declared.messages.Sender.TheVariants as senders
 use Rattle.rm_types.specs.declared.operations.How.TheVariants as ways
 use Rattle.rm_types.specs.declared.operations.Op.TheVariants as ops
-use Rattle.rm_types.specs.declared.replies.Reply.TheVariants as replies
 use Rattle.rm_types.proofs.TestLemmas.{number_itself}
 use Rattle.rm_states.specs.declared.app.states.AppState.TheVariants as apps
 use Rattle.rm_states.specs.declared.attempt.states.AttemptEvent.TheVariants as attempt_events
@@ -17,7 +13,6 @@ use Rattle.rm_states.specs.attempt.Table.{next_attempt_state as next_attempt_sta
 use Rattle.rm_invariant.proofs.masters.Saying.{goes_on as attempt_goes_on}
 use Rattle.rm_tables.specs.declared.changes.AttemptChange.TheVariants as of_attempt
 use Rattle.rm_tables.specs.declared.changes.RowChange.TheVariants as of_app
-use Rattle.rm_tables.specs.declared.events.MainEvent.TheVariants as mains
 use Rattle.rm_invariant.specs.apps.Invariant.{RowInvariant, is_active}
 use Rattle.rm_invariant.specs.Step.{AppsInvariant}
 use Rattle.rm_invariant.specs.apps.View.{View, changed_if, gone_if, op_view, put_if, view}
@@ -32,9 +27,10 @@ use Rattle.rm_invariant.proofs.masters.AwaitingAttempts.{attempt_awaits, with_at
 use Rattle.rm_invariant.proofs.masters.Sounding.{numbered_last}
 use Rattle.rm_invariant.specs.Core.{PreservesCore}
 use Rattle.rm_invariant.specs.messages.Fits.{FitsCurrent, EachRowFits}
-use Rattle.rm_invariant.proofs.messages.Rows.{clock_rows, node_rows}
-use Rattle.rm_invariant.proofs.messages.MarkedMessages.{clock_posts, node_posts}
 use Rattle.rm_invariant.proofs.messages.Fitting.{is_recorded, RowGoes, SameCurrent, change_same, goes_with, rows_fit, same_current}
+use Rattle.rm_invariant.specs.messages.Outcomes.{registers_master, MessageOutcome, after_message}
+use Rattle.rm_invariant.specs.messages.Outcomes as comes
+use Rattle.rm_invariant.proofs.messages.Outcomes.{message_outcome, registers_live}
 
 -- MESSAGES
 
@@ -71,46 +67,6 @@ module _ (settings : Settings) (h : History) (t : Tables) (fit : EachRowFits t) 
   still : (next : Tables) → next.rows ≡ t.rows → next.tree ≡ t.tree → RowMoves next
   still next rows tree q now found = inr (inr (now, ap (λ (l : List (AppId × Option AppRow)). row_of l q) (sym rows) ∙ found, same_current now, rw tree refl))
 
-  -- of a client
-  taken_goes : (o : Option AppRow) (id : AppId) (s : Submission) → RowMoves (taken_by o id s t)
-  taken_goes (Some row) id s = still t refl refl
-  taken_goes None id s = λ q now found. by q now (put_found id (submitted_row s) t.rows q now found)
-    where
-      by : (q : AppId) (now : AppRow) → (row_of t.rows q ≡ Some now) ⊎ (submitted_row s ≡ now) → RowGoes t (taken_by None id s t) q now
-      by q now (inl there) = inr (inr (now, there, same_current now, refl))
-      by q now (inr new) = inl (ap (λ (row : AppRow). row.current) (sym new))
-
-  wished_goes : (o : Option AppRow) (id : AppId) → RowMoves (wished_by o id t)
-  wished_goes None id = still t refl refl
-  wished_goes (Some row) id = by row.wish refl
-    where
-      by : (b : Bool) → row.wish ≡ b → RowMoves (wished_by (Some row) id t)
-      by true e = rw e (still t refl refl)
-      by false e =
-          rw e
-          (goes_with t (record t { rows = with_row (changed of_app.Wish) id t.rows; main = t.main ++ mains.AppKill id ∷ [] }) id (changed of_app.Wish) refl (λ q apart. refl)
-          (λ row there. inr (inr (row, there, change_same of_app.Wish row refl, refl))))
-
-  client_goes : (ask : ClientAsk) (reply : Reply) → RowMoves (after_client ask reply t)
-  client_goes clients.New (replies.New id) = still (record t { given = id.number }) refl refl
-  client_goes clients.New _ = still t refl refl
-  client_goes (clients.Submit id s) replies.Submitted = taken_goes (row_of t.rows id) id s
-  client_goes (clients.Submit id s) _ = still t refl refl
-  client_goes (clients.Kill id) replies.Killing = wished_goes (row_of t.rows id) id
-  client_goes (clients.Kill id) _ = still t refl refl
-  client_goes (clients.Report id) reply = still t refl refl
-
-  pub client_fits : (user : List ℕ) (ask : ClientAsk) (reply : Reply) (s : PreservesCore settings h t (Served senders.Client (messages.Client user ask) reply, after_client ask reply t)) → EachRowFits (after_client ask reply t)
-  client_fits user ask reply s = rows_fit settings s.next t (after_client ask reply t) s.whole.keeps fit (client_goes ask reply)
-
-  -- of a node
-  pub node_fits : (name : List ℕ) (ask : NodeAsk) (reply : Reply) (s : PreservesCore settings h t (Served senders.Node (messages.Node name ask) reply, after_node name ask reply t)) → EachRowFits (after_node name ask reply t)
-  node_fits name ask reply s = rows_fit settings s.next t (after_node name ask reply t) s.whole.keeps fit (still (after_node name ask reply t) (node_rows name ask reply t) (node_posts name ask reply t).tree)
-
-  -- of the clock
-  pub clock_fits : (ask : ClockAsk) (reply : Reply) (s : PreservesCore settings h t (Served senders.Clock (messages.Clock ask) reply, after_clock ask reply t)) → EachRowFits (after_clock ask reply t)
-  clock_fits ask reply s = rows_fit settings s.next t (after_clock ask reply t) s.whole.keeps fit (still (after_clock ask reply t) (clock_rows ask reply t) (clock_posts ask reply t).tree)
-
   -- of a master: it registers only where its attempt is recorded
   none_spoken : (f : Dialogue → Dialogue) (d : Option Dialogue) → d ≡ None → option_map f d ≡ None
   none_spoken f None e = refl
@@ -125,41 +81,37 @@ module _ (settings : Settings) (h : History) (t : Tables) (fit : EachRowFits t) 
           let alive : is_alive current.state ≡ true = alive_with current.state (current.number == attempt.number) (rw is at lives) in
           inr (inl (inr (rw is (alive_goes current.state alive)), inr (rw is (alive_recorded current.state alive))))
 
-  registers_live : (m : Scene) (attempt : AttemptId) → replies.MasterRegistered ≡ register_reply m attempt → is_live m attempt ≡ true
-  registers_live m attempt is = by (is_live m attempt) refl
-    where
-      by : (b : Bool) → is_live m attempt ≡ b → is_live m attempt ≡ true
-      by true e = e
-      by false e = let x : replies.MasterRegistered ≡ replies.Gone = rw e at is in cc
-
   said_same : (text : List ℕ) (row : AppRow) → SameCurrent row (said_row (with_text text) row)
   said_same text row = record { number = (change_same (of_app.OfAttempt of_attempt.Finish) row refl).number; silent = none_spoken (λ one. record one { finishing = Some text }) row.dialogue }
 
   told_same : (attempt : AttemptId) (id : ℕ) (reply : Reply) (row : AppRow) → SameCurrent row (told_row (with_answer id reply) (without_closings attempt) row)
   told_same attempt id reply row = record { number = refl; silent = none_spoken (λ one. record one { last_id = id; last_reply = reply }) row.dialogue }
 
-  master_goes : ((attempt : AttemptId) → is_live (abstract_scene h t) attempt ≡ lives_by attempt (row_of t.rows attempt.app)) → (attempt : AttemptId) (ask : MasterAsk) (reply : Reply) → reply ≡ master_reply settings (abstract_scene h t) attempt ask → RowMoves (after_master attempt ask reply t)
-  master_goes live attempt masters.Register replies.MasterRegistered is =
-      goes_with t (registered attempt replies.MasterRegistered t) attempt.app (registered_row (dialogue_begun replies.MasterRegistered)) refl (λ q apart. refl) (λ row there. registered_goes attempt replies.MasterRegistered row (ap (lives_by attempt) (sym there) ∙ sym (live attempt) ∙ registers_live (abstract_scene h t) attempt is))
-  master_goes live attempt masters.Register _ is = still t refl refl
-  master_goes live attempt (masters.Finish text) replies.Finishing is = by (goes_on (spoken_by attempt (row_of t.rows attempt.app))) refl
-    where
-      by : (b : Bool) → goes_on (spoken_by attempt (row_of t.rows attempt.app)) ≡ b → RowMoves (after_master attempt (masters.Finish text) replies.Finishing t)
-      by true e = rw e (goes_with t (said attempt text t) attempt.app (said_row (with_text text)) refl (λ q apart. refl) (λ row there. inr (inr (row, there, said_same text row, refl))))
-      by false e = rw e (still t refl refl)
-  master_goes live attempt (masters.Finish text) _ is = still t refl refl
-  master_goes live attempt (masters.Allocate id asks release) (replies.Allocated next grants ended) is = by (is_new_to id (spoken_by attempt (row_of t.rows attempt.app))) refl
-    where
-      by : (b : Bool) → is_new_to id (spoken_by attempt (row_of t.rows attempt.app)) ≡ b → RowMoves (after_master attempt (masters.Allocate id asks release) (replies.Allocated next grants ended) t)
-      by true e =
-          rw e
-          (goes_with t (allocated_with attempt id asks release (replies.Allocated next grants ended) t) attempt.app (told_row (with_answer (id + 1) (replies.Allocated next grants ended)) (without_closings attempt)) refl (λ q apart. refl)
-          (λ row there. inr (inr (row, there, told_same attempt (id + 1) (replies.Allocated next grants ended) row, refl))))
-      by false e = rw e (still t refl refl)
-  master_goes live attempt (masters.Allocate id asks release) _ is = still t refl refl
+  -- a master is told that it registered only where its attempt lives
+  abbrev AnswersSo : Message → Reply → Type 0
+  AnswersSo (messages.Master attempt ask) reply = reply ≡ master_reply settings (abstract_scene h t) attempt ask
+  AnswersSo _ reply = Unit {0}
 
-  pub master_fits : ((attempt : AttemptId) → is_live (abstract_scene h t) attempt ≡ lives_by attempt (row_of t.rows attempt.app)) → (attempt : AttemptId) (ask : MasterAsk) (reply : Reply) → reply ≡ master_reply settings (abstract_scene h t) attempt ask → (s : PreservesCore settings h t (Served senders.Master (messages.Master attempt ask) reply, after_master attempt ask reply t)) → EachRowFits (after_master attempt ask reply t)
-  master_fits live attempt ask reply is s = rows_fit settings s.next t (after_master attempt ask reply t) s.whole.keeps fit (master_goes live attempt ask reply is)
+  message_goes : ((attempt : AttemptId) → is_live (abstract_scene h t) attempt ≡ lives_by attempt (row_of t.rows attempt.app)) → (message : Message) (reply : Reply) (next : Tables) → AnswersSo message reply → MessageOutcome t message reply next → RowMoves next
+  message_goes live message reply next is (comes.idles one other) = still t refl refl
+  message_goes live message reply next is (comes.joins user id submission found) = λ q now there. by q now (put_found id (submitted_row submission) t.rows q now there)
+    where
+      by : (q : AppId) (now : AppRow) → (row_of t.rows q ≡ Some now) ⊎ (submitted_row submission ≡ now) → RowGoes t next q now
+      by q now (inl there) = inr (inr (now, there, same_current now, refl))
+      by q now (inr new) = inl (ap (λ (row : AppRow). row.current) (sym new))
+  message_goes live message reply next is (comes.wishes user id row found new) = goes_with t next id (changed of_app.Wish) refl (λ q apart. refl) (λ row there. inr (inr (row, there, change_same of_app.Wish row refl, refl)))
+  message_goes live message reply next is (comes.registers attempt answer so) =
+      goes_with t next attempt.app (registered_row (dialogue_begun answer)) refl (λ q apart. refl)
+      (λ row there. registered_goes attempt answer row (ap (lives_by attempt) (sym there) ∙ sym (live attempt) ∙ registers_live (abstract_scene h t) attempt answer so is))
+  message_goes live message reply next is (comes.finishes attempt text goes) = goes_with t next attempt.app (said_row (with_text text)) refl (λ q apart. refl) (λ row there. inr (inr (row, there, said_same text row, refl)))
+  message_goes live message reply next is (comes.allocates attempt id asks release answer so new) =
+      goes_with t next attempt.app (told_row (with_answer (id + 1) answer) (without_closings attempt)) refl (λ q apart. refl)
+      (λ row there. inr (inr (row, there, told_same attempt (id + 1) answer row, refl)))
+  message_goes live message reply next is _ = still next refl refl
+
+  pub message_fits : ((attempt : AttemptId) → is_live (abstract_scene h t) attempt ≡ lives_by attempt (row_of t.rows attempt.app)) → (message : Message) (reply : Reply) → AnswersSo message reply → (entry : Entry)
+      → (s : PreservesCore settings h t (entry, after_message message reply t)) → EachRowFits (after_message message reply t)
+  message_fits live message reply is entry s = rows_fit settings s.next t (after_message message reply t) s.whole.keeps fit (message_goes live message reply (after_message message reply t) is (message_outcome t message reply))
 
 -- KEPT OPERATIONS
 

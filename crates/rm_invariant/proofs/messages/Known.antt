@@ -1,5 +1,5 @@
 -- What a client may be told of an application follows from what holds of its row: whether it is known, has tried, is being saved.
-use Rattle.rm_invariant.proofs.Common.{◌≡◌, ℕ, ◌≤◌, ◌⊎◌, inl, inr, List, [], ◌∷◌, Bool, true, false, ◌||◌, not, Option, None, Some, length, refl, ◌∙◌, ap, arith, or_right, AppId, AttemptId, How, Submitted, AppRecord, AttemptRecord, Settings, is_app, is_nil, is_some_and, last_attempt, record_of, attempts_in, end_in, is_known, waiting_submission, AppState, AttemptState, AppRow, Current, Tables, row_of, History, abstract_scene, has_failed}
+use Rattle.rm_invariant.proofs.Common.{◌≡◌, ℕ, ◌≤◌, ◌⊎◌, inl, inr, List, [], ◌∷◌, Bool, true, false, not, Option, None, Some, length, refl, ◌∙◌, ap, arith, or_right, AppId, AttemptId, How, Submitted, AppRecord, AttemptRecord, Settings, is_app, is_nil, is_some_and, last_attempt, record_of, attempts_in, end_in, is_known, waiting_submission, AppState, AttemptState, AppRow, Current, Tables, row_of, History, abstract_scene, has_failed}
 use Rattle.std.proofs.Common.{is_some, option_map}
 use Rattle.rm_model.specs.Facts.{is_submitted}
 use Rattle.rm_states.specs.declared.app.states.AppState.TheVariants as apps
@@ -32,12 +32,9 @@ module _ (settings : Settings) (q : AttemptId) (v : View) where
   current_tried attempts.Scheduled id wish says = by_follows id.number says.1
   current_tried attempts.Granted id wish says = by_follows id.number says.1
   current_tried attempts.Saving id wish says = by_follows id.number says.1
-  current_tried attempts.Live id wish says = by_last _ says.0.2
-  current_tried attempts.Registered id wish says = by_last _ says.0.2
-  current_tried attempts.Finishing id wish says = by_last _ says.0.2
-  current_tried attempts.Ending id wish says = by_last _ says.0.2
   current_tried attempts.Ended id wish says = or_right v.accepted (not (is_nil (attempts_in v.found))) (by_length (attempts_in v.found) (let a = says.1 in let b = says.2 in omega (arith, a, b)))
   current_tried attempts.Dropped id wish says = absurd says
+  current_tried _ id wish says = by_last _ says.0.2
 
   active_tried : (c : Option Current) (wish : Bool) → ActiveInvariant settings q c wish v → has_tried v ≡ is_some c
   active_tried None wish says = absurd says
@@ -55,9 +52,7 @@ module _ (settings : Settings) (q : AttemptId) (v : View) where
   tried row apps.Running says = active_tried row.current row.wish says.3
   tried row apps.Killing says = active_tried row.current row.wish says.5
   tried row apps.FinalSaving says = over_tried row.current says.6
-  tried row apps.Finished says = over_tried row.current says.5
-  tried row apps.Failed says = over_tried row.current says.5
-  tried row apps.Killed says = over_tried row.current says.5
+  tried row _ says = over_tried row.current says.5
 
   -- an application with a row waits or is kept
   ended_found : (how : How) (found : Option AppRecord) → option_map (λ e. e.0) (end_in found) ≡ Some how → is_some found ≡ true
@@ -65,15 +60,8 @@ module _ (settings : Settings) (q : AttemptId) (v : View) where
   ended_found how (Some one) e = refl
 
   current_found : (s : AttemptState) (id : AttemptId) (wish : Bool) → CurrentInvariant settings s id wish v → is_some v.found ≡ true
-  current_found attempts.Scheduled id wish says = says.0.0
-  current_found attempts.Granted id wish says = says.0.0
-  current_found attempts.Saving id wish says = says.0.0
-  current_found attempts.Live id wish says = says.0.0
-  current_found attempts.Registered id wish says = says.0.0
-  current_found attempts.Finishing id wish says = says.0.0
-  current_found attempts.Ending id wish says = says.0.0
-  current_found attempts.Ended id wish says = says.0.0
   current_found attempts.Dropped id wish says = absurd says
+  current_found _ id wish says = says.0.0
 
   active_found : (c : Option Current) (wish : Bool) → ActiveInvariant settings q c wish v → is_some v.found ≡ true
   active_found None wish says = absurd says
@@ -87,9 +75,7 @@ module _ (settings : Settings) (q : AttemptId) (v : View) where
   there row apps.Running says = inr (active_found row.current row.wish says.3)
   there row apps.Killing says = inr (active_found row.current row.wish says.5)
   there row apps.FinalSaving says = inr says.0.0
-  there row apps.Finished says = inr (ended_found _ v.found says.0)
-  there row apps.Failed says = inr (ended_found _ v.found says.0)
-  there row apps.Killed says = inr (ended_found _ v.found says.0)
+  there row _ says = inr (ended_found _ v.found says.0)
 
   -- its App awaits exactly where it is being saved
   active_apps : (c : Option Current) (wish : Bool) → ActiveInvariant settings q c wish v → v.count.apps ≡ 0
@@ -109,9 +95,7 @@ module _ (settings : Settings) (q : AttemptId) (v : View) where
   saves row apps.Running says = inr (active_apps row.current row.wish says.3, refl)
   saves row apps.Killing says = inr (active_apps row.current row.wish says.5, refl)
   saves row apps.FinalSaving says = inr ((let a = says.3 in let b = says.4 in omega (arith, a, b)), refl)
-  saves row apps.Finished says = inr ((let a = says.3 in omega (arith, a)), refl)
-  saves row apps.Failed says = inr ((let a = says.3 in omega (arith, a)), refl)
-  saves row apps.Killed says = inr ((let a = says.3 in omega (arith, a)), refl)
+  saves row _ says = inr ((let a = says.3 in omega (arith, a)), refl)
 
 -- a submission waits exactly where one was submitted
 pub submitted_is : (submitted : List Submitted) (id : AppId) → is_submitted submitted id ≡ is_some (waiting_submission submitted id)

@@ -100,11 +100,9 @@ record Posts (t : Tables) (op : Op) : Type 0 where
 
 op_posts : (t : Tables) (op : Op) → is_epoch_op op ≡ false → Posts t op
 op_posts t (ops.Epoch next stamp) e = absurd (false≢true (sym e))
-op_posts t (ops.App id s) e = record { more = []; sched = sym (append-nil t.sched) }
-op_posts t (ops.Attempt id master node) e = record { more = []; sched = sym (append-nil t.sched) }
 op_posts t (ops.AttemptEnd id how text) e = record { more = scheds.AttemptRemoved id ∷ []; sched = refl }
 op_posts t (ops.AppEnd id how text) e = record { more = dropped_by (row_of t.rows id) id; sched = refl }
-op_posts t (ops.Remove id) e = record { more = []; sched = sym (append-nil t.sched) }
+op_posts t _ e = record { more = []; sched = sym (append-nil t.sched) }
 
 module _ (settings : Settings) (h : History) (t : Tables) (k : AppsInvariant settings h t) (on : ReleasesOnWay h t) (op : Op) (rest : List Op) (front : t.awaiting ≡ op ∷ rest) (not_epoch : is_epoch_op op ≡ false) where
   -- an application that is being saved has no container
@@ -136,19 +134,11 @@ module _ (settings : Settings) (h : History) (t : Tables) (k : AppsInvariant set
     where
       same_book : (op : Op) → book_of (after (live_state h t) (Kept op)) ≡ Some h.book
       same_book (ops.Epoch next stamp) = refl
-      same_book (ops.App id s) = refl
-      same_book (ops.Attempt id master node) = refl
-      same_book (ops.AttemptEnd id how text) = refl
-      same_book (ops.AppEnd id how text) = refl
-      same_book (ops.Remove id) = refl
+      same_book _ = refl
 
       tree_is : (op : Op) → is_epoch_op op ≡ false → (kept op t).tree.apps ≡ apps_recorded t.tree.apps t.tree.applied op
       tree_is (ops.Epoch next stamp) e = refl
-      tree_is (ops.App id s) e = refl
-      tree_is (ops.Attempt id master node) e = refl
-      tree_is (ops.AttemptEnd id how text) e = refl
-      tree_is (ops.AppEnd id how text) e = refl
-      tree_is (ops.Remove id) e = refl
+      tree_is _ e = refl
 
 -- a life opens with no container
 pub opened_on_way : (h : History) (t : Tables) → h.book ≡ [] → ReleasesOnWay h t

@@ -1,9 +1,6 @@
 -- Each row with the released mark has its release on its way: each event of both queues keeps it. Once the release comes, what it names has left.
-use Rattle.rm_invariant.proofs.Common.{◌≡◌, drop, inl, inr, ℕ, List, [], ◌∷◌, Bool, true, false, not, ◌&&◌, Option, None, Some, filter, map, refl, sym, ◌∙◌, ap, subst, if◌then◌else◌, list_any, false≢true, Cause, Running, Grant, Held, Entry, AttemptId, ContainerId, AppRecord, Settings, is_attempt, is_container, Records, container_itself, same_container, AttemptState, has_row, row_absorbed, row_taken, is_held, after, is_living, once, has_container, row_granted, Row, MainEvent, SchedEvent, NodeRow, AppRow, Current, Tables, absorbed_by, absorbed_if, main_worked, sched_quiet, sched_worked, ended_by, is_masters_in, main_step, is_waiting_row, node_row, updated_by, row_of, is_on, is_released, queued_at, queued_by, queued_with, sched_step, History, live_state}
-use Rattle.std.proofs.Common.{◌==◌}
+use Rattle.rm_invariant.proofs.Common.{◌≡◌, drop, inl, inr, ℕ, List, [], ◌∷◌, Bool, true, false, not, Some, filter, map, refl, sym, ◌∙◌, ap, subst, if◌then◌else◌, list_any, false≢true, Running, Grant, Held, Entry, AttemptId, ContainerId, AppRecord, Settings, is_attempt, is_container, Records, container_itself, same_container, has_row, row_absorbed, row_taken, is_held, after, is_living, once, has_container, row_granted, Row, MainEvent, SchedEvent, Tables, main_worked, sched_worked, ended_by, is_masters_in, main_step, is_released, sched_step, History, live_state}
 use Rattle.rm_types.specs.declared.containers.Cause.TheVariants as causes
-use Rattle.rm_states.specs.declared.attempt.states.AttemptState.TheVariants as attempts
-use Rattle.rm_book.specs.Books.{book_row as book_row_of}
 use Rattle.rm_tables.specs.declared.events.SchedEvent.TheVariants as scheds
 use Rattle.rm_invariant.specs.nodes.Book.{All}
 use Rattle.rm_invariant.proofs.nodes.Holds.{all_append, all_filter, all_map, all_passing}
@@ -15,6 +12,9 @@ use Rattle.rm_invariant.specs.messages.Released.{IsOnWay, ReleasesOnWay, is_rele
 use Rattle.rm_invariant.proofs.messages.Marked.{all_both, all_found, all_later, step_on_way}
 use Rattle.rm_invariant.proofs.messages.Shapes.{QueueBy, book_of, main_shape}
 use Rattle.rm_invariant.proofs.events.Entering.{all_weaker}
+use Rattle.rm_invariant.specs.events.SchedOutcomes.{SchedOutcome}
+use Rattle.rm_invariant.specs.events.SchedOutcomes as outcomes
+use Rattle.rm_invariant.proofs.events.SchedOutcomes.{sched_outcome}
 
 -- THE MAIN QUEUE
 
@@ -53,26 +53,6 @@ module _ (h : History) (t : Tables) (rest : List SchedEvent) (on : All (IsOnWay 
   abbrev On : Row → Type 0
   On = IsOnWay t.tree.apps rest
 
-  quiet_leaves : LeavesOnWay h t rest (sched_quiet t)
-  quiet_leaves = record { book = h.book; is = refl; sched = refl; tree = refl; on = on }
-
-  ended_leaves : (cause : Cause) (list : List ContainerId) → LeavesOnWay h t rest (ended_by cause list t)
-  ended_leaves cause [] = quiet_leaves
-  ended_leaves cause (id ∷ ids) = record { book = _; is = refl; sched = refl; tree = refl; on = all_filter On (λ row. not (has_container (id ∷ ids) row.id)) h.book on }
-
-  queued_leaves : (o : Option AppRow) (id : AttemptId) → LeavesOnWay h t rest (queued_by o id t)
-  queued_leaves None id = quiet_leaves
-  queued_leaves (Some row) id = with_current row.current
-    where
-      at_state : (s : AttemptState) (b : Bool) → LeavesOnWay h t rest (queued_at s b id t)
-      at_state attempts.Scheduled true = record { book = h.book; is = refl; sched = refl; tree = refl; on = on }
-      at_state attempts.Scheduled false = quiet_leaves
-      at_state _ b = quiet_leaves
-
-      with_current : (o : Option Current) → LeavesOnWay h t rest (queued_with o id t)
-      with_current None = quiet_leaves
-      with_current (Some current) = at_state current.state (current.number == id.number)
-
   -- rows that enter have no mark
   absorbed_new : (name : List ℕ) (taken : List Held) → All On (map (row_absorbed name) taken)
   absorbed_new name [] = tt
@@ -89,27 +69,24 @@ module _ (h : History) (t : Tables) (rest : List SchedEvent) (on : All (IsOnWay 
       by true = on
       by false = on
 
-  absorbed_leaves : (o : Option NodeRow) (name : List ℕ) (turn : ℕ) (ended : List ContainerId) → LeavesOnWay h t rest (absorbed_by o name turn ended t)
-  absorbed_leaves None name turn ended = quiet_leaves
-  absorbed_leaves (Some row) name turn ended = by (is_waiting_row row.state && (row.turn == turn))
-    where
-      by : (b : Bool) → LeavesOnWay h t rest (absorbed_if b name row ended t)
-      by true =
-          record {
-            book = _;
-            is = refl;
-            sched = refl;
-            tree = refl;
-            on =
-                all_append On _ _
-                (all_map On On (row_taken _) (taken_on _) (filter (λ one. not (has_container ended one.id)) h.book) (all_filter On (λ one. not (has_container ended one.id)) h.book on))
-                (absorbed_new name _);
-          }
-      by false = quiet_leaves
-
-  updated_leaves : (o : Option NodeRow) (name : List ℕ) → LeavesOnWay h t rest (updated_by o name t)
-  updated_leaves None name = quiet_leaves
-  updated_leaves (Some row) name = record { book = _; is = refl; sched = refl; tree = refl; on = all_append On h.book _ on (granted_new _) }
+  -- an event that is no release
+  others_leave : (list : List ContainerId) (e : SchedEvent) (done : Entry × Tables) → SchedOutcome t list e done → LeavesOnWay h t rest done
+  others_leave list e done (outcomes.idles one nothing) = record { book = h.book; is = refl; sched = refl; tree = refl; on = on }
+  others_leave list e done (outcomes.posts id) = record { book = h.book; is = refl; sched = refl; tree = refl; on = on }
+  others_leave list e done (outcomes.asks id row current is state number) = record { book = h.book; is = refl; sched = refl; tree = refl; on = on }
+  others_leave list e done (outcomes.ends one cause id ids is) = record { book = _; is = refl; sched = refl; tree = refl; on = all_filter On (λ row. not (has_container (id ∷ ids) row.id)) h.book on }
+  others_leave list e done (outcomes.absorbs name turn row found waits) =
+      record {
+        book = _;
+        is = refl;
+        sched = refl;
+        tree = refl;
+        on =
+            all_append On _ _
+            (all_map On On (row_taken _) (taken_on _) (filter (λ one. not (has_container list one.id)) h.book) (all_filter On (λ one. not (has_container list one.id)) h.book on))
+            (absorbed_new name _);
+      }
+  others_leave list e done (outcomes.grants name row found) = record { book = _; is = refl; sched = refl; tree = refl; on = all_append On h.book _ on (granted_new _) }
 
 -- an event that is no release isn't missed
 rest_on : (apps : List AppRecord) (e : SchedEvent) (rest : List SchedEvent) → ((id : ContainerId) → is_release_of id e ≡ false) → (book : List Row) → All (IsOnWay apps (e ∷ rest)) book → All (IsOnWay apps rest) book
@@ -163,18 +140,12 @@ module _ (settings : Settings) (h : History) (t : Tables) (w : CoreInvariant set
         not_true true x = absurd (false≢true x)
         not_true false x = refl
 
+  other : (e : SchedEvent) → ((id : ContainerId) → is_release_of id e ≡ false) → (list : List ContainerId) → All (IsOnWay t.tree.apps (e ∷ rest)) h.book → LeavesOnWay h t rest (sched_step e list t)
+  other e none list on = others_leave h t rest (rest_on t.tree.apps e rest none h.book on) list e (sched_step e list t) (sched_outcome t list e)
+
   step_leaves : (e : SchedEvent) (list : List ContainerId) → All (IsOnWay t.tree.apps (e ∷ rest)) h.book → LeavesOnWay h t rest (sched_step e list t)
-  step_leaves (scheds.AppAdded id) list on =
-      record { book = h.book; is = refl; sched = refl; tree = refl; on = rest_on t.tree.apps (scheds.AppAdded id) rest (λ c. refl) h.book on }
-  step_leaves (scheds.AttemptRecovered id) list on = quiet_leaves h t rest (rest_on t.tree.apps (scheds.AttemptRecovered id) rest (λ c. refl) h.book on)
-  step_leaves (scheds.AttemptAdded id) list on = queued_leaves h t rest (rest_on t.tree.apps (scheds.AttemptAdded id) rest (λ c. refl) h.book on) (row_of t.rows id.app) id
-  step_leaves (scheds.AttemptRemoved id) list on = ended_leaves h t rest (rest_on t.tree.apps (scheds.AttemptRemoved id) rest (λ c. refl) h.book on) causes.Attempt list
   step_leaves (scheds.Release attempt released) list on = released_by_list attempt released on (given_back attempt released on) refl
-  step_leaves (scheds.NodeAdded node turn) list on = absorbed_leaves h t rest (rest_on t.tree.apps (scheds.NodeAdded node turn) rest (λ c. refl) h.book on) (node_row t.nodes node) node turn list
-  step_leaves (scheds.NodeDone node done) list on =
-      ended_leaves h t rest (rest_on t.tree.apps (scheds.NodeDone node done) rest (λ c. refl) h.book on) causes.Done (once (filter (λ id. is_on node (book_row_of t.book id)) done))
-  step_leaves (scheds.NodeUpdate node) list on = updated_leaves h t rest (rest_on t.tree.apps (scheds.NodeUpdate node) rest (λ c. refl) h.book on) (node_row t.nodes node) node
-  step_leaves (scheds.NodeLost node) list on = ended_leaves h t rest (rest_on t.tree.apps (scheds.NodeLost node) rest (λ c. refl) h.book on) causes.Node list
+  step_leaves e list on = other e (λ c. refl) list on
 
   pub sched_on_way : ReleasesOnWay h t → (e : SchedEvent) → t.sched ≡ e ∷ rest → (list : List ContainerId) (s : PreservesCore settings h t (sched_worked (sched_step e list t))) → ReleasesOnWay s.next (sched_worked (sched_step e list t)).1
   sched_on_way on e front list s =

@@ -1,5 +1,5 @@
 -- Nodes by name, and what an entry must show so that what holds at each node is kept.
-use Rattle.rm_invariant.proofs.Common.{◌≡◌, ℕ, List, [], ◌∷◌, Bool, true, false, not, Option, None, Some, filter, map, refl, sym, ◌∙◌, subst, Contains, list_any, bytes_eq, false≢true, ContainerId, is_nil, same_text, Row, Undone, Registered, Beat, Expired, ids_on, judged_node, tidied_node, SchedEvent}
+use Rattle.rm_invariant.proofs.Common.{◌≡◌, ℕ, List, [], ◌∷◌, Bool, true, false, not, Option, None, Some, filter, map, refl, sym, ◌∙◌, subst, Contains, list_any, bytes_eq, ContainerId, is_nil, same_text, Row, Undone, Registered, Beat, Expired, ids_on, judged_node, tidied_node, SchedEvent}
 use Rattle.std.specs.Prelude.{option_map}
 use Rattle.std.proofs.lemmas.List.Elements.{Contains-append_left, Contains-append_right, Contains-push}
 use Rattle.rm_model.specs.State.{NodeState}

@@ -257,8 +257,7 @@ module _ (settings : Settings) (q : AttemptId) where
   ended_says : (one : AppRecord) (how : How) (c : Option Current) → option_map (λ e. e.0) one.ending ≡ Some how → EndIssuedInvariant c (opening_with (Some one) false false true)
       → StateInvariant settings q (end_state how) (row_with (length one.attempts) (end_state how) c) (opening_with (Some one) false false true)
   ended_says one ways.Finished c is o = (is, refl, refl, refl, refl, o)
-  ended_says one ways.Failed c is o = (is, refl, refl, refl, refl, o)
-  ended_says one ways.Killed c is o = (is, refl, refl, refl, refl, o)
+  ended_says one _ c is o = (is, refl, refl, refl, refl, o)
 
   opening_some : (one : AppRecord) → Recoverable q.app one → RowInvariant settings q (Some (recovered_row one)) (opening_view (Some one))
   opening_some one (fresh unended none) =

@@ -1,5 +1,5 @@
 -- The life's Epoch is kept: all that holds of an open life holds from then on, whatever was recorded.
-use Rattle.rm_invariant.proofs.Common.{◌≡◌, ℕ, ◌+◌, suc, List, [], ◌∷◌, ◌++◌, Bool, true, false, ◌&&◌, ◌||◌, nat_le, Option, None, Some, is_none, length, refl, sym, ◌∙◌, ap, subst, arith, if◌then◌else◌, flat_map, list_any, nat_tests, AppId, AttemptId, How, AppRecord, AttemptRecord, is_attempt, last_attempt, record_of, attempt_was_first, after, life_keeps, has_app, LifeState, SchedEvent, AppRow, Current, Tables, was_first, kept, going_in, main_of, opening_sched, recovered_attempt, recovered_row, recovered_rows, sched_by, sched_of, row_of, AttemptAgrees, ClosingsAgree, NumberAgrees, RowAgrees, finishes_by, is_ending, History, abstract_life, abstract_scene, live_state}
+use Rattle.rm_invariant.proofs.Common.{◌≡◌, ℕ, ◌+◌, suc, List, [], ◌∷◌, ◌++◌, Bool, true, false, ◌&&◌, ◌||◌, nat_le, Option, None, Some, is_none, length, refl, sym, ◌∙◌, ap, subst, arith, if◌then◌else◌, flat_map, list_any, nat_tests, AppId, AttemptId, How, AppRecord, AttemptRecord, is_attempt, last_attempt, record_of, attempt_was_first, life_keeps, has_app, LifeState, SchedEvent, AppRow, Current, Tables, was_first, kept, going_in, main_of, opening_sched, recovered_attempt, recovered_row, recovered_rows, sched_by, sched_of, row_of, AttemptAgrees, ClosingsAgree, NumberAgrees, RowAgrees, finishes_by, is_ending, History, abstract_life, abstract_scene}
 use Rattle.std.proofs.Common.{◌==◌, nat_lt, is_some, option_map}
 use Rattle.rm_types.specs.declared.entries.Entry.TheVariants.{Kept as KeptEntry}
 use Rattle.rm_types.specs.declared.operations.Op.TheVariants as ops
@@ -24,10 +24,8 @@ use Rattle.rm_invariant.specs.events.MainFacts.{IsSilent}
 use Rattle.rm_invariant.specs.Core.{Nothing, PreservesCore}
 use Rattle.rm_invariant.proofs.events.Leaving.{stepped_whole}
 use Rattle.rm_invariant.specs.opening.Begun.{IsBegun}
-use Rattle.rm_invariant.specs.auxiliary.Parts.{FixedParts, fixed_parts}
 use Rattle.rm_invariant.specs.auxiliary.Invariant.{HasNotFinished, NoneFirst, AuxInvariant}
-use Rattle.rm_invariant.proofs.auxiliary.MainEvents.{firsts_same}
-use Rattle.rm_invariant.proofs.auxiliary.Parts.{parts_after}
+use Rattle.rm_invariant.proofs.auxiliary.Together.{aux_after}
 
 -- WHAT A LIFE OPENS WITH
 
@@ -257,10 +255,6 @@ module _ (h : History) (t : Tables) (b : IsBegun h t) (next stamp : ℕ) (front 
 
   pub opened_sides : (s : PreservesCore t.settings h t (KeptEntry (ops.Epoch next stamp), opened)) → AuxInvariant s.next opened
   opened_sides s =
-      let same : fixed_parts s.next ≡ fixed_parts h = parts_after s.next opened (after (live_state h t) (KeptEntry (ops.Epoch next stamp))) (fixed_parts h) s.step.same refl in
-      let first : s.next.first ≡ h.first = ap (λ (p : FixedParts). p.first) same in
-      let retired : s.next.apps.retired ≡ h.apps.retired = ap (λ (p : FixedParts). p.retired) same in
-      let submitted : s.next.apps.submitted ≡ h.apps.submitted = ap (λ (p : FixedParts). p.submitted) same in
       let ended = ap (λ (x : Tables). x.ended) b.tables in
       let in_asks : t.asks ≡ [] = ap (λ (x : Tables). x.asks) b.tables in
       let in_nodes : t.nodes ≡ [] = ap (λ (x : Tables). x.nodes) b.tables in
@@ -268,7 +262,15 @@ module _ (h : History) (t : Tables) (b : IsBegun h t) (next stamp : ℕ) (front 
       let waits = ap (λ (x : Tables). x.waits) b.tables in
       let none_out = no_retired in
       let first_tree = first_is in
-      record {
+      aux_after t.settings h t (KeptEntry (ops.Epoch next stamp)) opened opened s h.apps.retired h.apps.submitted h.endings.releases refl
+      (record {
+        rows = record {
+          silent = each_row (λ row. IsSilent row.current row.dialogue) recovered_silent;
+          firsts = opened_firsts;
+          none_first = opened_none;
+          unfinished = each_row (λ row. HasNotFinished row.current) recovered_unfinished;
+          known = let r = rows in rw (none_out, r) (none_retired t.tree.apps);
+        };
         completes = record {
           once = b.stored.once;
           in_order = rw ended (ended_in_order t.tree.apps b.stored.once);
@@ -276,17 +278,13 @@ module _ (h : History) (t : Tables) (b : IsBegun h t) (next stamp : ℕ) (front 
           retires = λ many. retire_posted (flat_map main_of t.tree.apps) mains.Retire refl;
         };
         apt = b.stored.apt;
-        silent = each_row (λ row. IsSilent row.current row.dialogue) recovered_silent;
-        firsts = firsts_same h s.next t opened t.rows first opened_firsts;
-        none_first = rw (first, retired) opened_none;
         present = rw in_nodes (λ name row found. cc);
         others = rw in_asks (λ q some. cc);
         single = rw in_asks (λ q. refl);
-        waits = rw (first, first_tree) (waits ∙ going_any t.tree.apps);
-        served = none_released s.next.endings.releases t.tree.apps;
+        waits = rw first_tree (waits ∙ going_any t.tree.apps);
+        served = none_released h.endings.releases t.tree.apps;
         offers = rw in_book (λ name none. refl);
-        lists = record { order = rw submitted opened_lists.order; going = rw submitted opened_lists.going };
+        order = opened_lists.order;
+        going = opened_lists.going;
         finishes = λ q. rw front (sym (ap (finishes_by q) (found_row q.app) ∙ recovered_finishes q (record_of t.tree.apps q.app)));
-        unfinished = each_row (λ row. HasNotFinished row.current) recovered_unfinished;
-        retired = let r = rows in rw (retired, none_out, r) (none_retired t.tree.apps);
-      }
+      })

@@ -74,10 +74,7 @@ module _ (settings : Settings) (h : History) (t : Tables) (k : AppsInvariant set
       state apps.Accepted row says = absurd (let n = says.0 in let s = some_start in omega (arith, n, s))
       state apps.Running row says = absurd (let n = says.0 in let s = some_start in omega (arith, n, s))
       state apps.Killing row says = absurd (let n = says.0 in let s = some_start in omega (arith, n, s))
-      state apps.FinalSaving row says = absurd (let n = says.2 in let s = some_start in omega (arith, n, s))
-      state apps.Finished row says = absurd (let n = says.2 in let s = some_start in omega (arith, n, s))
-      state apps.Failed row says = absurd (let n = says.2 in let s = some_start in omega (arith, n, s))
-      state apps.Killed row says = absurd (let n = says.2 in let s = some_start in omega (arith, n, s))
+      state _ row says = absurd (let n = says.2 in let s = some_start in omega (arith, n, s))
 
       by : (o : Option AppRow) → row_of t.rows id ≡ o → RowInvariant settings (at id) o (view h t (at id)) → IsNew
       by None found says = absurd (let n = says.none_start in let s = some_start in omega (arith, n, s))

@@ -46,15 +46,11 @@ module _ (settings : Settings) (q : AttemptId) (v : View) (still : IsStill v.cou
       asks says.0 says.1 (w ∙ free) (let n = own.0 in let z = still.queueings in omega (arith, n, z))
   current_rests wish attempts.Granted w says own = absurd (let n = own.1 in let z = still.grants in omega (arith, n, z))
   current_rests wish attempts.Saving w says own = absurd (let n = says.3 in let z = still.none_await in omega (arith, n, z))
-  current_rests wish attempts.Live w says own =
-      lives says.0 (w ∙ false_from_ne_true wish (λ is. let n = own.1 is in let a = still.kills in let b = still.launches in omega (arith, n, a, b)))
-  current_rests wish attempts.Registered w says own =
-      lives says.0 (w ∙ false_from_ne_true wish (λ is. let n = own.1 is in let a = still.kills in let b = still.launches in omega (arith, n, a, b)))
-  current_rests wish attempts.Finishing w says own =
-      lives says.0 (w ∙ false_from_ne_true wish (λ is. let n = own.1 is in let a = still.kills in let b = still.launches in omega (arith, n, a, b)))
   current_rests wish attempts.Ending w says own = absurd (let n = says.2 in let z = still.none_await in omega (arith, n, z))
   current_rests wish attempts.Ended w says own = absurd (let n = says.4 in let z = still.dones in omega (arith, n, z))
   current_rests wish attempts.Dropped w says own = absurd says
+  current_rests wish _ w says own =
+      lives says.0 (w ∙ false_from_ne_true wish (λ is. let n = own.1 is in let a = still.kills in let b = still.launches in omega (arith, n, a, b)))
 
   active_rests : (wish : Bool) (c : Option Current) → v.wished ≡ wish → ((current : Current) → c ≡ Some current → current.number ≡ q.number) → ActiveInvariant settings q c wish v → Rests settings q v
   active_rests wish None w same says = absurd says
@@ -71,9 +67,7 @@ module _ (settings : Settings) (q : AttemptId) (v : View) (still : IsStill v.cou
   state_rests row apps.Running w same says = active_rests row.wish row.current w same says.3
   state_rests row apps.Killing w same says = active_rests row.wish row.current w same says.5
   state_rests row apps.FinalSaving w same says = absurd (let n = says.4 in let z = still.none_await in omega (arith, n, z))
-  state_rests row apps.Finished w same says = let e = some_end (λ e. e.0) (end_in v.found) _ says.0 in over (end_of_some v.found e) e
-  state_rests row apps.Failed w same says = let e = some_end (λ e. e.0) (end_in v.found) _ says.0 in over (end_of_some v.found e) e
-  state_rests row apps.Killed w same says = let e = some_end (λ e. e.0) (end_in v.found) _ says.0 in over (end_of_some v.found e) e
+  state_rests row _ w same says = let e = some_end (λ e. e.0) (end_in v.found) _ says.0 in over (end_of_some v.found e) e
 
 -- the number of the attempt that an application's facts are read at
 abbrev current_number : Option Current → ℕ

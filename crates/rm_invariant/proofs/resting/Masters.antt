@@ -47,15 +47,12 @@ find_at id n (one ∷ more) a (suc k) s lt is =
 
 module _ (settings : Settings) (q : AttemptId) (v : View) (still : ops_of v.count ≡ 0) (quiet : v.count.dones ≡ 0) (unended : all_ended (attempts_in v.found) ≡ false) (open_ : end_in v.found ≡ None) where
   current_rests : (id : AttemptId) (wish : Bool) (s : AttemptState) → CurrentInvariant settings s id wish v → Alive s × LastIsOpen v.found id
-  current_rests id wish attempts.Scheduled says = absurd (let x = says.0.2 in cc)
-  current_rests id wish attempts.Granted says = absurd (let x = says.0.2 in cc)
-  current_rests id wish attempts.Saving says = absurd (let x = says.0.2 in cc)
   current_rests id wish attempts.Live says = (inl refl, says.0)
   current_rests id wish attempts.Registered says = (inr (inl refl), says.0)
   current_rests id wish attempts.Finishing says = (inr (inr refl), says.0)
   current_rests id wish attempts.Ending says = absurd (let n = says.2 in omega (arith, n, still))
-  current_rests id wish attempts.Ended says = absurd (let x = says.0.2 in cc)
   current_rests id wish attempts.Dropped says = absurd says
+  current_rests id wish _ says = absurd (let x = says.0.2 in cc)
 
   -- the current attempt of an application lives
   pub record LivesAt (row : AppRow) : Type 0 where
@@ -76,9 +73,7 @@ module _ (settings : Settings) (q : AttemptId) (v : View) (still : ops_of v.coun
   state_rests row apps.Running says = active_rests row row.current refl says.3
   state_rests row apps.Killing says = active_rests row row.current refl says.5
   state_rests row apps.FinalSaving says = absurd (let x = says.0.2 in cc)
-  state_rests row apps.Finished says = absurd (let e = says.0 in let x = rw open_ at e in cc)
-  state_rests row apps.Failed says = absurd (let e = says.0 in let x = rw open_ at e in cc)
-  state_rests row apps.Killed says = absurd (let e = says.0 in let x = rw open_ at e in cc)
+  state_rests row _ says = absurd (let e = says.0 in let x = rw open_ at e in cc)
 
   -- its application has a row, and its current attempt lives
   pub row_rests : (row : Option AppRow) → RowInvariant settings q row v → (one : AppRow) × (row ≡ Some one) × LivesAt one
@@ -216,12 +211,10 @@ module _ (settings : Settings) (h : History) (t : Tables) (k : AppsInvariant set
         own row current attempts.Granted false n says at_ = absurd (absurd_living at_.1)
         own row current attempts.Granted true n says at_ = absurd (let g = at_.1 in let x = rw no_main at g in omega (arith, x))
         own row current attempts.Saving m n says at_ = absurd (let o = says.3 in omega (arith, o, still))
-        own row current attempts.Live m n says at_ = goes current.number n says.0
-        own row current attempts.Registered m n says at_ = goes current.number n says.0
-        own row current attempts.Finishing m n says at_ = goes current.number n says.0
         own row current attempts.Ending m n says at_ = absurd (let o = says.2 in omega (arith, o, still))
         own row current attempts.Ended m n says at_ = absurd (absurd_removal at_)
         own row current attempts.Dropped m n says at_ = absurd says
+        own row current _ m n says at_ = goes current.number n says.0
 
         numbered : (row : AppRow) (current : Current) (b : Bool) → (current.number == c.attempt.number) ≡ b → CurrentInvariant settings current.state (record { app = c.attempt.app; number = current.number }) row.wish (view h t c.attempt) → ContainerByNumber c b current (container_view h t c) → kept_and_on
         numbered row current true n says at_ = own row current current.state (is_master_of c current.master) n says at_
@@ -239,9 +232,7 @@ module _ (settings : Settings) (h : History) (t : Tables) (k : AppsInvariant set
         state row apps.Running e says at_ = active row row.current says.3 at_.0
         state row apps.Killing e says at_ = active row row.current says.5 at_.0
         state row apps.FinalSaving e says at_ = absurd (let o = says.4 in omega (arith, o, still))
-        state row apps.Finished e says at_ = absurd (absurd_removal (at_.1 (rw e refl)))
-        state row apps.Failed e says at_ = absurd (absurd_removal (at_.1 (rw e refl)))
-        state row apps.Killed e says at_ = absurd (absurd_removal (at_.1 (rw e refl)))
+        state row _ e says at_ = absurd (absurd_removal (at_.1 (rw e refl)))
 
         by : (row : Option AppRow) → RowInvariant settings c.attempt row (view h t c.attempt) → ContainerInvariant c row (container_view h t c) → kept_and_on
         by None good says = absurd (absurd_removal says.1.1)

@@ -1,17 +1,10 @@
 -- Every entry of the judge keeps the names of nodes apart: nodes change in place and keep their names, and one that is added has a name that none has.
-use Rattle.rm_invariant.proofs.Common.{◌≡◌, ℕ, List, [], ◌∷◌, ◌++◌, Bool, true, false, Option, None, Some, refl, subst, if◌then◌else◌, bytes_eq, Cause, Held, Entry, AttemptId, ContainerId, ClientAsk, ClockAsk, MasterAsk, Message, NodeAsk, Op, Reply, Settings, LifeState, Manager, Registration, Scene, scene, absorbed, absorbs, after, life_keeps, leave, without_launches, is_known, is_new_to_master, life_after_master, is_registered, beaten, expired, is_later_turn, is_new_to_node, life_after_clock, life_after_node, new_node, node_after_registration, judged_node, tidied, tidied_node, with_judged_node, passed, life_after, Tables, History, live_state}
+use Rattle.rm_invariant.proofs.Common.{◌≡◌, ℕ, List, [], ◌∷◌, ◌++◌, Bool, true, false, Option, None, Some, refl, subst, if◌then◌else◌, bytes_eq, Cause, Held, Entry, ContainerId, Message, Op, Reply, Settings, LifeState, Manager, Registration, Scene, scene, absorbed, absorbs, after, life_keeps, leave, without_launches, beaten, expired, new_node, node_after_registration, judged_node, tidied, tidied_node, with_judged_node, passed, life_after, Tables, History, live_state}
 use Rattle.rm_types.specs.declared.containers.Cause.TheVariants.{Gone}
 use Rattle.rm_types.specs.declared.entries.Entry.TheVariants as entries
-use Rattle.rm_types.specs.declared.messages.ClientAsk.TheVariants as clients
-use Rattle.rm_types.specs.declared.messages.ClockAsk.TheVariants as clocks
-use Rattle.rm_types.specs.declared.messages.MasterAsk.TheVariants as masters
-use Rattle.rm_types.specs.declared.messages.Message.TheVariants as messages
-use Rattle.rm_types.specs.declared.messages.NodeAsk.TheVariants as asks
 use Rattle.rm_types.specs.declared.operations.Op.TheVariants as ops
-use Rattle.rm_types.specs.declared.replies.Reply.TheVariants as replies
 use Rattle.rm_model.specs.State.{NodeState}
 use Rattle.rm_model.specs.Changes.{after_in, after_where, life_issues}
-use Rattle.rm_model.specs.ClientReplies.{joins, life_after_client}
 use Rattle.rm_model.specs.NodeReplies.{nodes_registered}
 use Rattle.rm_refinement.proofs.Found.{apart_names}
 use Rattle.rm_invariant.specs.Step.{Step}
@@ -19,6 +12,9 @@ use Rattle.rm_invariant.proofs.nodes.Entries.{at_name}
 use Rattle.rm_invariant.proofs.nodes.Moved.{KeepsName}
 use Rattle.rm_invariant.specs.nodes.Names.{NamesApart}
 use Rattle.rm_invariant.proofs.resting.Nodes.{apart_map}
+use Rattle.rm_invariant.specs.messages.LifeOutcomes.{LifeOutcome}
+use Rattle.rm_invariant.specs.messages.LifeOutcomes as lives
+use Rattle.rm_invariant.proofs.messages.LifeOutcomes.{life_outcome}
 
 -- no two nodes have one name in the life, where one stands
 abbrev pub LifeApart : Option LifeState → Type 0
@@ -61,57 +57,13 @@ apart_left : (m : Scene) (cause : Cause) (list : List ContainerId) → NamesApar
 apart_left m cause list h = apart_map (without_launches list) (λ node. refl) m.life.nodes h
 
 -- each message
-apart_client : (m : Scene) (ask : ClientAsk) (reply : Reply) → NamesApart m.life.nodes → NamesApart (life_after_client m ask reply).nodes
-apart_client m clients.New (replies.New id) h = h
-apart_client m (clients.Submit id submission) replies.Submitted h = by (is_known m id) refl
-  where
-    by : (b : Bool) → is_known m id ≡ b → NamesApart (joins m id submission).nodes
-    by true e = rw e h
-    by false e = rw e h
-apart_client m (clients.Kill id) replies.Killing h = h
-apart_client m _ _ h = h
-
-apart_master : (m : Scene) (attempt : AttemptId) (ask : MasterAsk) (reply : Reply) → NamesApart m.life.nodes → NamesApart (life_after_master m attempt ask reply).nodes
-apart_master m attempt masters.Register replies.MasterRegistered h = h
-apart_master m attempt (masters.Allocate id list release) (replies.Allocated next grants ended) h = by (is_new_to_master m attempt id) refl
-  where
-    by : (b : Bool) → is_new_to_master m attempt id ≡ b → NamesApart (life_after_master m attempt (masters.Allocate id list release) (replies.Allocated next grants ended)).nodes
-    by true e = rw e h
-    by false e = rw e h
-apart_master m attempt (masters.Finish text) replies.Finishing h = by (is_registered m attempt) refl
-  where
-    by : (b : Bool) → is_registered m attempt ≡ b → NamesApart (life_after_master m attempt (masters.Finish text) replies.Finishing).nodes
-    by true e = rw e h
-    by false e = rw e h
-apart_master m attempt _ _ h = h
-
-apart_node : (m : Scene) (name : List ℕ) (ask : NodeAsk) (reply : Reply) → NamesApart m.life.nodes → NamesApart (life_after_node m name ask reply).nodes
-apart_node m name (asks.Register turn capability running) (replies.NodeRegistered told epoch) h = by (is_later_turn turn (judged_node m.life.nodes name)) refl
-  where
-    by : (b : Bool) → is_later_turn turn (judged_node m.life.nodes name) ≡ b → NamesApart (life_after_node m name (asks.Register turn capability running) (replies.NodeRegistered told epoch)).nodes
-    by true e =
-        rw e (apart_tidied (record m.life { nodes = nodes_registered m name (record { turn = turn; capability = capability; running = running }) (replies.NodeRegistered told epoch) (judged_node m.life.nodes name) })
-        (apart_registered m name (record { turn = turn; capability = capability; running = running }) (replies.NodeRegistered told epoch) (judged_node m.life.nodes name) refl h))
-    by false e = rw e h
-apart_node m name (asks.Beat id running done) (replies.Beat next launch clean) h = by (is_new_to_node m name id) refl
-  where
-    by : (b : Bool) → is_new_to_node m name id ≡ b → NamesApart (life_after_node m name (asks.Beat id running done) (replies.Beat next launch clean)).nodes
-    by true e = rw e (apart_with (beaten launch done (replies.Beat next launch clean)) (λ node. refl) name m.life.nodes h)
-    by false e = rw e h
-apart_node m name _ _ h = h
-
-apart_clock : (m : Scene) (ask : ClockAsk) (reply : Reply) → NamesApart m.life.nodes → NamesApart (life_after_clock m ask reply).nodes
-apart_clock m (clocks.Tick time) replies.Ok h = h
-apart_clock m (clocks.ExpireNode name) replies.Ok h =
-    apart_tidied (record m.life { nodes = with_judged_node expired name m.life.nodes }) (apart_with expired (λ node. refl) name m.life.nodes h)
-apart_clock m (clocks.ExpireMaster attempt) replies.Ok h = h
-apart_clock m _ _ h = h
-
-apart_message : (m : Scene) (message : Message) (reply : Reply) → NamesApart m.life.nodes → NamesApart (life_after m message reply).nodes
-apart_message m (messages.Client user ask) reply h = apart_client m ask reply h
-apart_message m (messages.Master attempt ask) reply h = apart_master m attempt ask reply h
-apart_message m (messages.Node node ask) reply h = apart_node m node ask reply h
-apart_message m (messages.Clock ask) reply h = apart_clock m ask reply h
+apart_message : (m : Scene) (message : Message) (reply : Reply) (life : LifeState) → LifeOutcome m message reply life → NamesApart m.life.nodes → NamesApart life.nodes
+apart_message m message reply life (lives.enrolls name turn capability running one later) h =
+    apart_tidied (record m.life { nodes = nodes_registered m name (record { turn = turn; capability = capability; running = running }) one (judged_node m.life.nodes name) })
+    (apart_registered m name (record { turn = turn; capability = capability; running = running }) one (judged_node m.life.nodes name) refl h)
+apart_message m message reply life (lives.beats name id running done launched one new) h = apart_with (beaten launched done one) (λ node. refl) name m.life.nodes h
+apart_message m message reply life (lives.loses name one) h = apart_tidied (record m.life { nodes = with_judged_node expired name m.life.nodes }) (apart_with expired (λ node. refl) name m.life.nodes h)
+apart_message m message reply life _ h = h
 
 -- what is issued and what is kept
 apart_issues : (m : Scene) (op : Op) → NamesApart m.life.nodes → NamesApart (life_issues m op).nodes
@@ -120,11 +72,7 @@ apart_issues m _ h = h
 
 apart_keeps : (life : LifeState) (op : Op) → NamesApart life.nodes → NamesApart (life_keeps life op).nodes
 apart_keeps life (ops.Epoch next stamp) h = h
-apart_keeps life (ops.App id submission) h = h
-apart_keeps life (ops.Attempt id master node) h = h
-apart_keeps life (ops.AttemptEnd id how text) h = h
-apart_keeps life (ops.AppEnd id how text) h = h
-apart_keeps life (ops.Remove id) h = h
+apart_keeps life _ h = h
 
 -- a node's report is absorbed
 apart_absorbs : (m : Scene) (name : List ℕ) (taken : List Held) (ended : List ContainerId) → NamesApart m.life.nodes → NamesApart (absorbs m name taken ended).nodes
@@ -139,7 +87,7 @@ apart_in s m (entries.Issued op) h = apart_issues m op h
 apart_in s m entries.Handed h = h
 apart_in s m (entries.Kept op) h = apart_keeps m.life op h
 apart_in s m (entries.Blown passed) h = h
-apart_in s m (entries.Served sender message reply) h = apart_message m message reply h
+apart_in s m (entries.Served sender message reply) h = apart_message m message reply (life_after m message reply) (life_outcome m message reply) h
 apart_in s m (entries.Accepted app) h = h
 apart_in s m (entries.Queued attempt) h = h
 apart_in s m (entries.Absorbed node taken ended) h = apart_absorbs m node taken ended h

@@ -1,6 +1,6 @@
 -- What is in its range in a life, between two moves: what is recorded and what awaits, the rows of applications and of nodes, what is asked for,
 -- what stands in the book, and the numbers that messages make rise. This project's own.
-use Rattle.std.specs.Prelude.{◌≡◌, ◌<◌, ◌≤◌, ◌+◌, ◌-◌, ◌*◌, ◌^◌, ℕ, List, Bool, true, false, Option, None, Some, count_by}
+use Rattle.std.specs.Prelude.{◌≡◌, ◌<◌, ◌≤◌, ◌+◌, ◌-◌, ◌*◌, ℕ, List, Bool, true, false, Option, None, Some, count_by}
 use Rattle.rm_types.specs.declared.containers.Ask.{Ask}
 use Rattle.rm_types.specs.declared.containers.BookRow.{BookRow}
 use Rattle.rm_types.specs.declared.ids.AppId.{AppId}
