@@ -41,7 +41,7 @@ impl Step {
     }
 }
 
-/// Puts the frame of an operation of the job of a number in place of what there was: 120 bytes of an App, 55 of an Attempt, 276
+/// Puts the frame of an operation of the job of a number in place of what there was: 121 bytes of an App, 55 of an Attempt, 276
 /// of an AttemptEnd, which is the most that one has, and 16 of an AppEnd.
 pub fn frame_of(out: &mut Vec<u8>, step: Step, job: u32) -> Result<(), AllocError> {
     out.clear();
@@ -68,12 +68,12 @@ pub fn epoch_of(out: &mut Vec<u8>, next: u32) -> Result<(), AllocError> {
 }
 
 fn put_app(out: &mut Vec<u8>, job: u32) -> Result<(), AllocError> {
-    put_id(out, 2, job)?;
+    put_id(out, 7, job)?;
     put_text(out, USER)?;
     put_text(out, QUEUE)?;
     put_text(out, NAME)?;
-    // 1,024 megabytes, a core, and no bound on the attempts.
-    out.extend_from_slice(&[0, 0, 4, 0, 0, 0, 0, 1, 0, 0, 0, 0])?;
+    // 1,024 megabytes, a core, no bound on the attempts, and no containers kept.
+    out.extend_from_slice(&[0, 0, 4, 0, 0, 0, 0, 1, 0, 0, 0, 0, 0])?;
     put_text(out, b"")
 }
 

@@ -19,7 +19,7 @@ use Rattle.rm_cluster.specs.Readings.{at_key, number_within, string_of, user_gro
 abbrev pub known_keys : List (List ℕ)
 known_keys =
     codes "max_attempts" ∷ codes "max_completed" ∷ codes "max_apps" ∷ codes "wait_ms" ∷ codes "acl_enable" ∷ codes "admin_acl"
-    ∷ codes "max_memory_mb" ∷ codes "max_vcores" ∷ codes "groups" ∷ codes "queues" ∷ []
+    ∷ codes "max_memory_mb" ∷ codes "max_vcores" ∷ codes "groups" ∷ codes "queues" ∷ codes "recover_ended_containers" ∷ []
 
 -- the key is one of them
 unfoldable pub is_known : List ℕ → Bool
@@ -77,6 +77,10 @@ default_queues = bare_queue (codes "root") ∷ bare_queue (codes "root.default")
 unfoldable pub queues_of : Data → Option (List QueueSpec)
 queues_of = at_key (codes "queues") queue_tree_of default_queues
 
+-- whether containers are recovered that ended while no manager stood: false where the key is absent
+unfoldable pub recover_ended_containers_of : Data → Option Bool
+recover_ended_containers_of = at_key (codes "recover_ended_containers") as_bool false
+
 -- each place from 2 on in the order of the table, and whether the file keeps its rule
 abbrev pub rules : Data → List (ℕ × Bool)
 rules file =
@@ -91,6 +95,7 @@ rules file =
     (10, is_some (max_vcores_of file)) ∷
     (11, is_some (groups_of file)) ∷
     (12, is_some (queues_of file)) ∷
+    (13, is_some (recover_ended_containers_of file)) ∷
     []
 
 -- the place of the first rule that the file breaks, if there is one
@@ -110,5 +115,4 @@ pub record IsSettingsOf (file : Data) (settings : Settings) : Type 0 where
   pub max_vcores : max_vcores_of file ≡ Some settings.greatest.vcores
   pub groups : groups_of file ≡ Some settings.groups
   pub queues : queues_of file ≡ Some settings.queues
-  -- no key asks yet for containers that ended to be recovered
-  pub recover_ended_containers : settings.recover_ended_containers ≡ false
+  pub recover_ended_containers : recover_ended_containers_of file ≡ Some settings.recover_ended_containers

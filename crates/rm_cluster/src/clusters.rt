@@ -7,7 +7,8 @@ ghost use Rattle.rm_cluster.specs.Rules.{IsSettingsOf};
 use crate::limits::GREATEST_LENGTH;
 use crate::rules::{
     acl_enable_of, admin_acl_of, groups_of, has_known_keys, max_apps_of, max_attempts_of,
-    max_completed_of, max_memory_of, max_vcores_of, queues_of, wait_ms_of,
+    max_completed_of, max_memory_of, max_vcores_of, queues_of, recover_ended_containers_of,
+    wait_ms_of,
 };
 use rm_types::{NoMemory, Resource, Settings};
 use serde_json::Value;
@@ -18,9 +19,9 @@ use thiserror::Error;
 #[derive(Clone, Copy, Debug, PartialEq, Eq, Error)]
 pub enum ClusterError {
     /// The bytes break a rule of the cluster file. The place is that of the first rule that is broken: 1 where
-    /// they are too many or no JSON value, 2 where that is no object or has an unknown key, and from 3 to 12 the
+    /// they are too many or no JSON value, 2 where that is no object or has an unknown key, and from 3 to 13 the
     /// key whose value is out of its range, in the order `max_attempts`, `max_completed`, `max_apps`, `wait_ms`,
-    /// `acl_enable`, `admin_acl`, `max_memory_mb`, `max_vcores`, `groups`, `queues`.
+    /// `acl_enable`, `admin_acl`, `max_memory_mb`, `max_vcores`, `groups`, `queues`, `recover_ended_containers`.
     #[error("the cluster file is refused at place {place}")]
     Refused { place: u32 },
     /// No memory was found for the settings.
@@ -81,6 +82,7 @@ fn settings_of(alloc: Global, file: &Value) -> Result<Settings, ClusterError>
     let vcores = max_vcores_of(file).ok_or(refused(10))?;
     let groups = groups_of(alloc, file)?.ok_or(refused(11))?;
     let queues = queues_of(alloc, file)?.ok_or(refused(12))?;
+    let recover_ended_containers = recover_ended_containers_of(file).ok_or(refused(13))?;
     Ok(Settings {
         max_attempts,
         max_completed,
@@ -91,6 +93,6 @@ fn settings_of(alloc: Global, file: &Value) -> Result<Settings, ClusterError>
         greatest: Resource { memory_mb, vcores },
         groups,
         queues,
-        ..Settings::empty(alloc)
+        recover_ended_containers,
     })
 }

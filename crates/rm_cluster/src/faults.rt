@@ -69,6 +69,7 @@ pub enum Key {
     AdminAcl,
     MaxMemory,
     MaxVcores,
+    RecoverEndedContainers,
 }
 
 impl fmt::Display for Key {
@@ -91,6 +92,7 @@ impl fmt::Display for Key {
                 "max_memory_mb: a whole number from 1 to {GREATEST_MEMORY_MB}"
             ),
             Key::MaxVcores => write!(f, "max_vcores: a whole number from 1 to {GREATEST_VCORES}"),
+            Key::RecoverEndedContainers => write!(f, "recover_ended_containers: true or false"),
         }
     }
 }
@@ -243,7 +245,7 @@ impl fmt::Display for Rule {
             ),
             2 => write!(
                 f,
-                "the file: an object, with no key but `max_attempts`, `max_completed`, `max_apps`, `wait_ms`, `acl_enable`, `admin_acl`, `max_memory_mb`, `max_vcores`, `groups` and `queues`"
+                "the file: an object, with no key but `max_attempts`, `max_completed`, `max_apps`, `wait_ms`, `acl_enable`, `admin_acl`, `max_memory_mb`, `max_vcores`, `groups`, `queues` and `recover_ended_containers`"
             ),
             3 => write!(f, "{}", Key::MaxAttempts),
             4 => write!(f, "{}", Key::MaxCompleted),
@@ -258,6 +260,7 @@ impl fmt::Display for Rule {
                 f,
                 "queues: a list of objects with a `name` and maybe `submit` and `admin`; the first is `root`, and each other one is a part below one before it"
             ),
+            13 => write!(f, "{}", Key::RecoverEndedContainers),
             _ => write!(f, "what docs/FORMATS.md says of that place"),
         }
     }

@@ -1,4 +1,5 @@
-ghost use Rattle.std.specs.Prelude.{◌≡◌, IfOk};
+ghost use Rattle.std.specs.Prelude.{◌≡◌, IfOk, false};
+ghost use Rattle.serde_json.specs.Find.{as_bool};
 ghost use Rattle.serde_json.specs.View.{view};
 ghost use Rattle.rm_cluster.specs.Readings.{at_key, number_within, text_of, string_of};
 
@@ -19,6 +20,16 @@ pub(crate) fn number_at(
     match file.get(key) {
         Some(value) => number_within(value, least, greatest),
         None => Some(absent),
+    }
+}
+
+/// What is true or false at a key; false where there is no such key.
+pub(crate) fn flag_at(file: &Value, key: &str) -> Option<bool>
+    ensures { result ≡ at_key key.now as_bool false (view file.now) }
+{
+    match file.get(key) {
+        Some(value) => value.as_bool(),
+        None => Some(false),
     }
 }
 

@@ -11,7 +11,7 @@ use crate::queues::{
 use crate::readings::{string_of, text_of};
 use crate::rules::{
     acl_enable_of, admin_acl_of, has_known_keys, is_known, max_apps_of, max_attempts_of,
-    max_completed_of, max_memory_of, max_vcores_of, wait_ms_of,
+    max_completed_of, max_memory_of, max_vcores_of, recover_ended_containers_of, wait_ms_of,
 };
 use rm_types::{NoMemory, QueueSpec, TextKind};
 use serde_json::{Map, Value};
@@ -310,6 +310,11 @@ fn value_fault(alloc: Global, file: &Value, place: u32) -> Result<Option<Cluster
         }
         11 => Ok(groups_fault(alloc, file)?.map(ClusterFault::Groups)),
         12 => Ok(queues_fault(alloc, file)?.map(ClusterFault::Queues)),
+        13 => {
+            let is_broken = recover_ended_containers_of(file).is_none();
+            let key = Key::RecoverEndedContainers;
+            Ok(broken_key(is_broken, key, file, "recover_ended_containers"))
+        }
         _ => Ok(key_fault(file, place)),
     }
 }

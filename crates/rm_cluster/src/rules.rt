@@ -2,7 +2,7 @@ ghost use Rattle.std.specs.Prelude.{◌≡◌, IfOk, string_bytes};
 ghost use Rattle.std.specs.BTreeMap.{keys};
 ghost use Rattle.std.specs.List.{list_all};
 ghost use Rattle.serde_json.specs.View.{view};
-ghost use Rattle.rm_cluster.specs.Rules.{is_known, has_known_keys, max_attempts_of, max_completed_of, max_apps_of, wait_ms_of, acl_enable_of, admin_acl_of, max_memory_of, max_vcores_of, groups_of, queues_of, bare_queue, default_queues};
+ghost use Rattle.rm_cluster.specs.Rules.{is_known, has_known_keys, max_attempts_of, max_completed_of, max_apps_of, wait_ms_of, acl_enable_of, admin_acl_of, max_memory_of, max_vcores_of, groups_of, queues_of, recover_ended_containers_of, bare_queue, default_queues};
 
 use crate::groups::user_groups_of;
 use crate::limits::{
@@ -10,7 +10,7 @@ use crate::limits::{
     DEFAULT_WAIT_MS, LONGEST_WAIT_MS, MOST_APPS, MOST_COMPLETED,
 };
 use crate::queues::queue_tree_of;
-use crate::readings::{number_at, string_of};
+use crate::readings::{flag_at, number_at, string_of};
 use rm_types::{
     GREATEST_ATTEMPTS, GREATEST_MEMORY_MB, GREATEST_VCORES, Items, NoMemory, QueueSpec, Text,
     TextKind, UserGroups,
@@ -34,6 +34,7 @@ pub(crate) fn is_known(key: &str) -> bool
             | "max_vcores"
             | "groups"
             | "queues"
+            | "recover_ended_containers"
     )
 }
 
@@ -91,10 +92,7 @@ pub(crate) fn wait_ms_of(file: &Value) -> Option<u32>
 pub(crate) fn acl_enable_of(file: &Value) -> Option<bool>
     ensures { result ≡ acl_enable_of (view file.now) }
 {
-    match file.get("acl_enable") {
-        Some(value) => value.as_bool(),
-        None => Some(false),
-    }
+    flag_at(file, "acl_enable")
 }
 
 /// Who administers all.
@@ -170,4 +168,12 @@ fn default_queues(alloc: Global) -> Result<Items<QueueSpec>, NoMemory>
     queues.push(bare_queue(alloc, b"root")?)?;
     queues.push(bare_queue(alloc, b"root.default")?)?;
     Ok(queues)
+}
+
+/// Whether containers are recovered that ended while no manager stood.
+#[tactic(auto, unfolding(crate::specs::Rules::recover_ended_containers_of))]
+pub(crate) fn recover_ended_containers_of(file: &Value) -> Option<bool>
+    ensures { result ≡ recover_ended_containers_of (view file.now) }
+{
+    flag_at(file, "recover_ended_containers")
 }

@@ -1,5 +1,5 @@
 -- The frames of store operations: what the store keeps of each, as bytes. This project's own.
-use Rattle.std.specs.Prelude.{ℕ, List, ◌∷◌, ◌++◌, length}
+use Rattle.std.specs.Prelude.{◌≡◌, ℕ, Bool, true, false, List, ◌∷◌, ◌++◌, length}
 use Rattle.std.specs.Int.{to_be_bytes, w16, w32, w64}
 use Rattle.rm_types.specs.declared.ids.AppId.{AppId}
 use Rattle.rm_types.specs.declared.ids.AttemptId.{AttemptId}
@@ -11,7 +11,7 @@ use Rattle.rm_types.specs.declared.operations.Op.TheVariants.{Epoch, App, Attemp
 use Rattle.rm_types.specs.declared.operations.Submission.{Submission}
 use Rattle.rm_formats.specs.declared.codes.FrameKind.{FrameKind}
 use Rattle.rm_formats.specs.declared.codes.FrameKind.TheVariants as kind
-use Rattle.rm_formats.specs.declared.codes.TheConstants.{EPOCH_CODE, APP_CODE, ATTEMPT_CODE, ATTEMPT_END_CODE, APP_END_CODE, REMOVE_CODE, FINISHED_CODE, FAILED_CODE, KILLED_CODE}
+use Rattle.rm_formats.specs.declared.codes.TheConstants.{EPOCH_CODE, OLDER_APP_CODE, APP_CODE, ATTEMPT_CODE, ATTEMPT_END_CODE, APP_END_CODE, REMOVE_CODE, FINISHED_CODE, FAILED_CODE, KILLED_CODE}
 
 -- a text: its length in 2 bytes, and its bytes
 abbrev pub text_frame : List ℕ → List ℕ
@@ -35,9 +35,22 @@ how_code Finished = FINISHED_CODE
 how_code Failed = FAILED_CODE
 how_code Killed = KILLED_CODE
 
--- what was submitted: three texts, the master's memory, its cores and the bound on attempts in 4 bytes each, and a text
+-- a yes or no, as one byte
+abbrev pub yes_code : Bool → ℕ
+yes_code true = 1
+yes_code false = 0
+
+-- what was submitted: three texts, the master's memory, its cores and the bound on attempts in 4 bytes each, whether containers are
+-- kept, and a text
 abbrev pub submission_frame : Submission → List ℕ
 submission_frame submission =
+    text_frame submission.user ++ (text_frame submission.queue ++ (text_frame submission.name
+    ++ (to_be_bytes w32 submission.master.memory_mb ++ (to_be_bytes w32 submission.master.vcores
+    ++ (to_be_bytes w32 submission.attempts ++ (yes_code submission.keep ∷ text_frame submission.modify))))))
+
+-- and as it was kept before there was such a choice
+abbrev pub older_submission_frame : Submission → List ℕ
+older_submission_frame submission =
     text_frame submission.user ++ (text_frame submission.queue ++ (text_frame submission.name
     ++ (to_be_bytes w32 submission.master.memory_mb ++ (to_be_bytes w32 submission.master.vcores
     ++ (to_be_bytes w32 submission.attempts ++ text_frame submission.modify)))))
@@ -45,6 +58,7 @@ submission_frame submission =
 -- the kind of a frame, as one byte
 abbrev pub kind_code : FrameKind → ℕ
 kind_code kind.Epoch = EPOCH_CODE
+kind_code kind.OlderApp = OLDER_APP_CODE
 kind_code kind.App = APP_CODE
 kind_code kind.Attempt = ATTEMPT_CODE
 kind_code kind.AttemptEnd = ATTEMPT_END_CODE
@@ -59,3 +73,9 @@ frame (Attempt id master node) = kind_code kind.Attempt ∷ (attempt_id_frame id
 frame (AttemptEnd id how text) = kind_code kind.AttemptEnd ∷ (attempt_id_frame id ++ (how_code how ∷ text_frame text))
 frame (AppEnd id how text) = kind_code kind.AppEnd ∷ (app_id_frame id ++ (how_code how ∷ text_frame text))
 frame (Remove id) = kind_code kind.Remove ∷ app_id_frame id
+
+-- the bytes read as an operation: they are its frame, or the older one of an App that doesn't keep
+pub data Reads (bytes : List ℕ) (op : Op) : Type 0 where
+  now : bytes ≡ frame op → Reads bytes op
+  older : (id : AppId) (submission : Submission) → op ≡ App id submission → submission.keep ≡ false
+      → bytes ≡ kind_code kind.OlderApp ∷ (app_id_frame id ++ older_submission_frame submission) → Reads bytes op

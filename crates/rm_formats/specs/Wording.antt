@@ -1,5 +1,5 @@
 -- The one text of each message, store operation and reply. This project's own.
-use Rattle.std.specs.Prelude.{ℕ, List, [], ◌∷◌, ◌++◌, map, codes}
+use Rattle.std.specs.Prelude.{ℕ, Bool, true, false, List, [], ◌∷◌, ◌++◌, map, codes}
 use Rattle.std.specs.List.{join_with_byte}
 use Rattle.std.specs.Fmt.{decimal}
 use Rattle.rm_types.specs.declared.containers.Ask.{Ask}
@@ -64,6 +64,11 @@ abbrev pub ask_text : Ask → List ℕ
 ask_text ask =
     decimal ask.priority ++ (codes ":" ++ (decimal ask.count ++ (codes ":" ++ (decimal ask.size.memory_mb ++ (codes ":" ++ decimal ask.size.vcores)))))
 
+-- a word that stands only where something is so
+abbrev pub yes_word : List ℕ → Bool → List (List ℕ)
+yes_word key true = (key ++ codes "yes") ∷ []
+yes_word key false = []
+
 -- what a client submits, after the application's id: the user stands elsewhere
 abbrev pub submission_words : Submission → List (List ℕ)
 submission_words submission =
@@ -72,7 +77,8 @@ submission_words submission =
     ∷ (codes "memory=" ++ decimal submission.master.memory_mb)
     ∷ (codes "vcores=" ++ decimal submission.master.vcores)
     ∷ (codes "attempts=" ++ decimal submission.attempts)
-    ∷ text_word (codes "modify=") submission.modify
+    ∷ yes_word (codes "keep=") submission.keep
+    ++ text_word (codes "modify=") submission.modify
 
 -- what a client asks, after its name
 abbrev pub client_words : ClientAsk → List (List ℕ)

@@ -12,7 +12,7 @@ pub mod ids;
 
 pub use codes::{
     APP_CODE, APP_END_CODE, ATTEMPT_CODE, ATTEMPT_END_CODE, EPOCH_CODE, FAILED_CODE, FINISHED_CODE,
-    FrameKind, KILLED_CODE, REMOVE_CODE,
+    FrameKind, KILLED_CODE, OLDER_APP_CODE, REMOVE_CODE,
 };
 
 /// The most bytes of a script or a schedule.

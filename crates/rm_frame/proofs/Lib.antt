@@ -3,3 +3,4 @@ pub mod Faults
 pub mod Apart
 pub mod Appends
 pub mod Whole
+pub mod Payloads

@@ -1,12 +1,12 @@
 -- The layout of a frame: its fields one after another, each with its range, and the first of them that bytes lack.
-use Rattle.std.specs.Prelude.{ℕ, ◌+◌, ◌-◌, ◌==◌, List, [], ◌∷◌, ◌++◌, length, take, drop, slice_index, Bool, ◌&&◌, nat_le, Option, Some, None, is_none, option_map, if◌then◌else◌}
+use Rattle.std.specs.Prelude.{ℕ, ◌+◌, ◌-◌, ◌==◌, List, [], ◌∷◌, ◌++◌, length, take, drop, slice_index, Bool, true, false, ◌&&◌, nat_le, Option, Some, None, is_none, option_map, if◌then◌else◌}
 use Rattle.std.specs.Int.{Width, byte_len, from_be_bytes, w16, w32, w64}
 use Rattle.rm_types.specs.declared.texts.TextKind.{TextKind}
 use Rattle.rm_types.specs.declared.texts.TextKind.TheVariants.{Name, Node, Queue, Note, AclText}
 use Rattle.rm_types.specs.Limits.{greatest_attempts, greatest_memory_mb, greatest_vcores}
 use Rattle.rm_types.specs.declared.limits.TheConstants.{EPOCHS, SEQUENCES, NUMBERS, STAMPS}
 use Rattle.rm_types.specs.Texts.{fault_of}
-use Rattle.rm_formats.specs.declared.codes.TheConstants.{EPOCH_CODE, APP_CODE, ATTEMPT_CODE, ATTEMPT_END_CODE, APP_END_CODE, REMOVE_CODE, FINISHED_CODE, KILLED_CODE}
+use Rattle.rm_formats.specs.declared.codes.TheConstants.{EPOCH_CODE, OLDER_APP_CODE, APP_CODE, ATTEMPT_CODE, ATTEMPT_END_CODE, APP_END_CODE, REMOVE_CODE, FINISHED_CODE, KILLED_CODE}
 
 -- a field: a byte or a number, from the least to the greatest, or a text of a kind behind its length
 pub data Field : Type 0 where
@@ -76,10 +76,15 @@ cores_field = NumberFrom w32 1 greatest_vcores
 abbrev pub attempts_field : Field
 attempts_field = NumberFrom w32 0 greatest_attempts
 
+-- whether containers are kept, where that could be chosen
+abbrev pub keep_fields : Bool → List Field
+keep_fields true = ByteFrom 0 1 ∷ []
+keep_fields false = []
+
 -- what was submitted
-abbrev pub submission_fields : List Field
-submission_fields =
-    TextOf Name ∷ TextOf Queue ∷ TextOf Name ∷ memory_field ∷ cores_field ∷ attempts_field ∷ TextOf AclText ∷ []
+abbrev pub submission_fields : Bool → List Field
+submission_fields chosen =
+    TextOf Name ∷ TextOf Queue ∷ TextOf Name ∷ memory_field ∷ cores_field ∷ attempts_field ∷ (keep_fields chosen ++ TextOf AclText ∷ [])
 
 -- how something ended
 abbrev pub how_field : Field
@@ -97,14 +102,15 @@ epoch_fields = NumberFrom w32 1 EPOCHS ∷ stamp_field ∷ []
 abbrev pub fields_of : ℕ → List Field
 fields_of code =
     if code == EPOCH_CODE then epoch_fields else
-    (if code == APP_CODE then app_id_fields ++ submission_fields else
+    (if code == OLDER_APP_CODE then app_id_fields ++ submission_fields false else
     (if code == ATTEMPT_CODE then attempt_id_fields ++ (master_fields ++ TextOf Node ∷ []) else
     (if code == ATTEMPT_END_CODE then attempt_id_fields ++ end_fields else
-    (if code == APP_END_CODE then app_id_fields ++ end_fields else app_id_fields))))
+    (if code == APP_END_CODE then app_id_fields ++ end_fields else
+    (if code == REMOVE_CODE then app_id_fields else app_id_fields ++ submission_fields true)))))
 
 -- the kind of a frame
 abbrev pub kind_field : Field
-kind_field = ByteFrom EPOCH_CODE REMOVE_CODE
+kind_field = ByteFrom EPOCH_CODE APP_CODE
 
 -- all fields of the frame that bytes may begin with: their first byte says which kind it is
 abbrev pub layout : List ℕ → List Field

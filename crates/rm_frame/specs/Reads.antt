@@ -1,7 +1,7 @@
 -- What a reader of fields says.
 use Rattle.std.specs.Prelude.{◌≡◌, ℕ, List, ◌++◌, Some}
 use Rattle.rm_types.specs.declared.operations.Op.{Op}
-use Rattle.rm_formats.specs.Frames.{frame}
+use Rattle.rm_formats.specs.Frames.{frame, Reads as ReadsAs}
 use Rattle.rm_types.specs.Ranges.{IsOperation}
 use Rattle.rm_frame.specs.declared.fields.FieldError.{FieldError}
 use Rattle.rm_frame.specs.declared.fields.FieldError.TheVariants.{Bad}
@@ -21,6 +21,13 @@ abbrev pub StopsBy : List Field → List ℕ → FieldError → Type 0
 StopsBy fields bytes error = (left : ℕ) → error ≡ Bad left → StopsReading fields bytes left
 
 -- the bytes are an operation's frame and the rest
-pub record ReadsOp (bytes : List ℕ) (op : Op) (rest : List ℕ) : Type 0 where
+pub record ReadsNow (bytes : List ℕ) (op : Op) (rest : List ℕ) : Type 0 where
   pub can : IsOperation op
   pub parts : bytes ≡ frame op ++ rest
+
+-- the bytes are what reads as an operation, and the rest
+pub record ReadsOp (bytes : List ℕ) (op : Op) (rest : List ℕ) : Type 0 where
+  pub can : IsOperation op
+  pub front : List ℕ
+  pub reads : ReadsAs front op
+  pub parts : bytes ≡ front ++ rest

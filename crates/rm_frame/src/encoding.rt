@@ -1,11 +1,11 @@
 ghost use Rattle.std.specs.Prelude.{◌≡◌, ◌<◌, ◌^◌, [], ◌∷◌, ◌++◌, length, OnOk, OnErr, IfOk};
 ghost use Rattle.std.specs.Int.{to_be_bytes, w32, w64};
-ghost use Rattle.rm_formats.specs.Frames.{frame, text_frame, app_id_frame, attempt_id_frame, submission_frame, how_code, kind_code};
+ghost use Rattle.rm_formats.specs.Frames.{frame, text_frame, app_id_frame, attempt_id_frame, submission_frame, how_code, kind_code, yes_code};
 ghost use Rattle.rm_types.specs.Ranges.{IsOperation, IsSubmission, IsText};
 
 use rm_formats::{
     APP_CODE, APP_END_CODE, ATTEMPT_CODE, ATTEMPT_END_CODE, EPOCH_CODE, FAILED_CODE, FINISHED_CODE,
-    FrameKind, KILLED_CODE, REMOVE_CODE,
+    FrameKind, KILLED_CODE, OLDER_APP_CODE, REMOVE_CODE,
 };
 use rm_types::{AppId, AttemptId, ContainerId, How, NoMemory, Op, Submission, Text, TextKind};
 use std::alloc::Global;
@@ -132,6 +132,7 @@ fn put_submission(out: &mut Vec<u8>, submission: &Submission) -> Result<(), NoMe
     put_u32(out, submission.master.memory_mb)?;
     put_u32(out, submission.master.vcores)?;
     put_u32(out, submission.attempts)?;
+    out.push(yes_code(submission.keep))?;
     put_text(out, &submission.modify)?;
     Ok(())
 }
@@ -186,6 +187,12 @@ fn put_u64(out: &mut Vec<u8>, number: u64) -> Result<(), NoMemory>
     Ok(())
 }
 
+fn yes_code(yes: bool) -> u8
+    ensures { result ≡ yes_code yes }
+{
+    if yes { 1 } else { 0 }
+}
+
 fn how_code(how: How) -> u8
     ensures { result ≡ how_code how }
 {
@@ -201,6 +208,7 @@ fn kind_code(kind: FrameKind) -> u8
 {
     match kind {
         FrameKind::Epoch => EPOCH_CODE,
+        FrameKind::OlderApp => OLDER_APP_CODE,
         FrameKind::App => APP_CODE,
         FrameKind::Attempt => ATTEMPT_CODE,
         FrameKind::AttemptEnd => ATTEMPT_END_CODE,

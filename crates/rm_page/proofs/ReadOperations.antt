@@ -13,10 +13,11 @@ use Rattle.rm_types.specs.Empty.{no_submission}
 use Rattle.rm_types.specs.Lists.{is_nil}
 use Rattle.rm_types.specs.Ranges.{IsSubmission, IsOperation}
 use Rattle.rm_formats.specs.IdTexts.{app_text, attempt_text, container_text}
-use Rattle.rm_formats.specs.Wording.{spaced, text_word, how_text, op_words, op_text}
+use Rattle.rm_formats.specs.Wording.{spaced, text_word, how_text, op_words, op_text, yes_word}
 use Rattle.rm_formats.specs.ids.Digits.{value_of}
 use Rattle.rm_page.proofs.Bytes.{made_of, lacks, lacks-append, number_back, text_lacks, cut, join_cut, EachLacks, cut_joined, cut_joined_last, behind, behind_is, is_word_byte, number_word, name_word, node_word, queue_word, AreWords, words_lack, EachLacks-append}
 use Rattle.rm_page.proofs.ReadIds.{app_word, attempt_word, container_word, read_app, read_attempt, read_container, app_back, attempt_back, container_back}
+use Rattle.std.specs.List.{onto_first}
 
 -- ---- words between spaces
 
@@ -62,16 +63,25 @@ last_word_back byte label (one ∷ bytes) = last_back (byte ∷ label) (one ∷ 
 
 -- ---- submissions
 
+-- whether a word that says so stands first, and what stands behind it
+is_kept : List (List ℕ) → Bool
+is_kept [] = false
+is_kept (word ∷ words) = bytes_eq word (codes "keep=yes")
+
+behind_keep : List (List ℕ) → List (List ℕ)
+behind_keep [] = []
+behind_keep (word ∷ words) = cond (bytes_eq word (codes "keep=yes")) words (word ∷ words)
+
 -- what a user submits, by the pieces behind the application's id
 pub read_submission : List ℕ → List (List ℕ) → Submission
-read_submission user (queue ∷ name ∷ memory ∷ vcores ∷ attempts ∷ modify) = record {
+read_submission user (queue ∷ name ∷ memory ∷ vcores ∷ attempts ∷ rest) = record {
   user = user;
   queue = behind (codes "queue=") queue;
   name = behind (codes "name=") name;
   master = record { memory_mb = value_of (behind (codes "memory=") memory); vcores = value_of (behind (codes "vcores=") vcores) };
   attempts = value_of (behind (codes "attempts=") attempts);
-  keep = false;
-  modify = read_last (codes "modify=") modify;
+  keep = is_kept rest;
+  modify = read_last (codes "modify=") (behind_keep rest);
 }
 read_submission user pieces = no_submission
 
@@ -82,7 +92,7 @@ submission_pieces submission =
     ∷ (codes "memory=" ++ decimal submission.master.memory_mb)
     ∷ (codes "vcores=" ++ decimal submission.master.vcores)
     ∷ (codes "attempts=" ++ decimal submission.attempts)
-    ∷ last_pieces (codes "modify=") submission.modify
+    ∷ (yes_word (codes "keep=") submission.keep ++ last_pieces (codes "modify=") submission.modify)
 
 abbrev pub submission_front : Submission → List (List ℕ)
 submission_front submission =
@@ -91,7 +101,11 @@ submission_front submission =
     ∷ (codes "memory=" ++ decimal submission.master.memory_mb)
     ∷ (codes "vcores=" ++ decimal submission.master.vcores)
     ∷ (codes "attempts=" ++ decimal submission.attempts)
-    ∷ []
+    ∷ yes_word (codes "keep=") submission.keep
+
+keep_are : (keep : Bool) → AreWords (yes_word (codes "keep=") keep)
+keep_are true = (refl, tt)
+keep_are false = tt
 
 pub submission_are : (submission : Submission) → IsSubmission submission → AreWords (submission_front submission)
 submission_are submission is = (
@@ -102,20 +116,29 @@ submission_are submission is = (
       number_word submission.master.memory_mb (omega (arith, is.memory_mb.1)),
       (
         number_word submission.master.vcores (omega (arith, is.vcores.1)),
-        (number_word submission.attempts (omega (arith, is.attempts.1)), tt),
+        (number_word submission.attempts (omega (arith, is.attempts.1)), keep_are submission.keep),
       ),
     ),
   ),
 )
 
+keep_back : (keep : Bool) (modify : List ℕ) → (is_kept (yes_word (codes "keep=") keep ++ last_pieces (codes "modify=") modify) ≡ keep)
+    × (behind_keep (yes_word (codes "keep=") keep ++ last_pieces (codes "modify=") modify) ≡ last_pieces (codes "modify=") modify)
+unfolding is_kept behind_keep
+keep_back true modify = (refl, refl)
+keep_back false [] = (refl, refl)
+keep_back false (byte ∷ bytes) = other (cut 32 (codes "odify=" ++ byte ∷ bytes))
+  where
+    other : (pieces : List (List ℕ)) → (is_kept (onto_first 109 pieces) ≡ false) × (behind_keep (onto_first 109 pieces) ≡ onto_first 109 pieces)
+    other [] = (refl, refl)
+    other (piece ∷ pieces) = (refl, refl)
+
 pub submission_back : (submission : Submission) → IsSubmission submission → read_submission submission.user (submission_pieces submission) ≡ submission
 unfolding read_submission
 submission_back submission is =
-    rw (number_back submission.master.memory_mb (omega (arith, is.memory_mb.1)), number_back submission.master.vcores (omega (arith, is.vcores.1)), number_back submission.attempts (omega (arith, is.attempts.1)))
-    (
-    ap (λ (keep : Bool). record submission { keep = keep; modify = read_last (codes "modify=") (last_pieces (codes "modify=") submission.modify) }) (sym is.keep)
-    ∙ ap (λ (modify : List ℕ). record submission { modify = modify }) (last_word_back 109 (codes "odify=") submission.modify)
-    )
+    let keep = keep_back submission.keep submission.modify in
+    rw (number_back submission.master.memory_mb (omega (arith, is.memory_mb.1)), number_back submission.master.vcores (omega (arith, is.vcores.1)), number_back submission.attempts (omega (arith, is.attempts.1)), keep.0, keep.1)
+    (ap (λ (modify : List ℕ). record submission { modify = modify }) (last_word_back 109 (codes "odify=") submission.modify))
 
 -- ---- operations
 

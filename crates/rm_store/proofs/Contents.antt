@@ -1,10 +1,9 @@
 -- A list of operations and its content on a device go on alike.
-use Rattle.rm_store.proofs.Common.{◌≡◌, ℕ, Bool, true, false, not, ◌&&◌, List, [], ◌∷◌, ◌++◌, map, length, Option, None, Some, is_some, is_none, refl, sym, ◌∙◌, ap, option_map, All, append-nil, All-nil, All-cons, Op, Epoch, App, Attempt, AttemptEnd, AppEnd, Remove, AppRecord, IsOperation, Records, records, record_of, fits_records, stray, frame, HasLayout, folded, stays, IsAlike}
+use Rattle.rm_store.proofs.Common.{◌≡◌, ℕ, Bool, true, false, not, List, [], ◌∷◌, ◌++◌, map, length, Option, None, Some, is_some, is_none, refl, sym, ◌∙◌, ap, option_map, All, append-nil, All-nil, All-cons, Op, Epoch, App, Attempt, AttemptEnd, AppEnd, Remove, AppRecord, IsOperation, Records, records, record_of, fits_records, stray, frame, HasLayout, folded, stays, IsAlike}
 use Rattle.std.proofs.Common.{nat_lt}
 use Rattle.std.proofs.lemmas.List.Elements.{All-head, All-tail}
-use Rattle.rm_types.specs.Lists.{is_nil}
 use Rattle.rm_types.specs.Records.{is_some_and}
-use Rattle.rm_tree.specs.Changes.{is_unended_last}
+use Rattle.rm_tree.specs.Changes.{is_end_recorded}
 use Rattle.rm_tree.specs.Shows.{shows}
 use Rattle.rm_store.specs.compaction.Amounts.{Amounts, amounts}
 use Rattle.rm_types.specs.Alike.{without_end_order}
@@ -12,7 +11,7 @@ use Rattle.rm_store.proofs.compaction.Folded.{fits_told, folded_none_stray, fold
 use Rattle.rm_store.proofs.compaction.Ordering.{tells_all, same_amounts, alike}
 use Rattle.rm_store.specs.Content.{ReadsAs, DeviceHolds, half_of}
 use Rattle.rm_store.proofs.Ops.{stray_push}
-use Rattle.rm_store.proofs.Framed.{reads_framed, reads_frames, reads_more}
+use Rattle.rm_store.proofs.Framed.{framed_now, reads_framed, reads_frames, reads_more}
 
 pub fits_same : (content ops : List Op) (op : Op) → folded content ≡ folded ops → fits_records (records content) op ≡ fits_records (records ops) op
 fits_same content ops op same =
@@ -35,7 +34,7 @@ shows_bare r (Attempt id master node) = rw (bare_found r.apps id.app) (by (recor
     by (Some app) = refl
 shows_bare r (AttemptEnd id how text) = rw (bare_found r.apps id.app) (by (record_of r.apps id.app))
   where
-    by : (o : Option AppRecord) → is_some_and (λ app. not (is_nil app.attempts) && not (is_unended_last id app)) o ≡ is_some_and (λ app. not (is_nil app.attempts) && not (is_unended_last id app)) (option_map without_end_order o)
+    by : (o : Option AppRecord) → is_some_and (λ app. is_end_recorded id app) o ≡ is_some_and (λ app. is_end_recorded id app) (option_map without_end_order o)
     by None = refl
     by (Some app) = refl
 shows_bare r (AppEnd id how text) = rw (bare_found r.apps id) (by (record_of r.apps id))
@@ -82,7 +81,7 @@ added image payloads content ops op reads none same can fits layout = record {
   has = record {
     payloads = payloads ++ frame op ∷ [];
     layout = layout;
-    reads = reads_more payloads content (frame op) op reads (record { can = can; is = refl });
+    reads = reads_more payloads content (frame op) op reads (framed_now op can);
     none_stray = stray_push content op none (fits_same content ops op same ∙ fits);
   };
   same = same_more content ops (op ∷ []) same;

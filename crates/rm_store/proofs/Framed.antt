@@ -1,7 +1,7 @@
 -- Payloads read as operations in one way at most.
-use Rattle.rm_store.proofs.Common.{◌≡◌, ℕ, List, [], ◌∷◌, ◌++◌, map, refl, sym, ◌∙◌, ap, subst, All, append-nil, All-nil, All-cons, Op, IsOperation, records, frame, one_layout, IsAlike, folded}
+use Rattle.rm_store.proofs.Common.{◌≡◌, ℕ, List, [], ◌∷◌, ◌++◌, map, refl, ◌∙◌, ap, subst, All, All-nil, All-cons, Op, IsOperation, records, frame, one_layout, IsAlike, folded}
 use Rattle.std.proofs.lemmas.List.Elements.{All-head, All-tail}
-use Rattle.rm_frame.proofs.Apart.{frames_alike}
+use Rattle.rm_frame.proofs.Payloads.{frame_reads, one_reading}
 use Rattle.rm_store.proofs.compaction.Ordering.{alike}
 use Rattle.rm_store.specs.Content.{IsFrameOf, ReadsAs, HasContent, DeviceHolds, half_of}
 
@@ -11,9 +11,13 @@ reads_framed [] (op ∷ ops) reads = absurd reads
 reads_framed (p ∷ payloads) [] reads = absurd reads
 reads_framed (p ∷ payloads) (op ∷ ops) reads = All-cons IsOperation op ops reads.0.can (reads_framed payloads ops reads.1)
 
+-- what is written of an operation is a frame of it
+pub framed_now : (op : Op) → IsOperation op → IsFrameOf (frame op) op
+framed_now op can = record { can = can; is = frame_reads op }
+
 pub reads_frames : (ops : List Op) → All IsOperation ops → ReadsAs (map frame ops) ops
 reads_frames [] all = tt
-reads_frames (op ∷ ops) all = (record { can = All-head IsOperation op ops all; is = refl }, reads_frames ops (All-tail IsOperation op ops all))
+reads_frames (op ∷ ops) all = (framed_now op (All-head IsOperation op ops all), reads_frames ops (All-tail IsOperation op ops all))
 
 pub reads_more : (payloads : List (List ℕ)) (ops : List Op) (payload : List ℕ) (op : Op) → ReadsAs payloads ops → IsFrameOf payload op → ReadsAs (payloads ++ payload ∷ []) (ops ++ op ∷ [])
 reads_more [] [] payload op reads one = (one, tt)
@@ -21,9 +25,9 @@ reads_more [] (x ∷ ops) payload op reads one = absurd reads
 reads_more (p ∷ payloads) [] payload op reads one = absurd reads
 reads_more (p ∷ payloads) (x ∷ ops) payload op reads one = (reads.0, reads_more payloads ops payload op reads.1 one)
 
--- a payload is the frame of one operation at most
+-- a payload is a frame of one operation at most
 pub same_op : (payload : List ℕ) (a b : Op) → IsFrameOf payload a → IsFrameOf payload b → a ≡ b
-same_op payload a b one two = (frames_alike a b [] [] one.can two.can (append-nil (frame a) ∙ (sym one.is ∙ two.is) ∙ sym (append-nil (frame b)))).0
+same_op payload a b one two = one_reading payload a b one.can two.can one.is two.is
 
 pub reads_one : (payloads : List (List ℕ)) (one other : List Op) → ReadsAs payloads one → ReadsAs payloads other → one ≡ other
 reads_one [] [] [] a b = refl

@@ -11,3 +11,4 @@ pub mod Rooms
 pub mod SoFar
 pub mod WalkingOn
 pub mod Why
+pub mod Written

@@ -8,7 +8,7 @@ use Rattle.rm_store.proofs.Changes.{take_got}
 use Rattle.std.specs.Int.{w64, to_be_bytes}
 use Rattle.rm_journal.proofs.Payloads.{length-journal_record}
 use Rattle.rm_store.specs.Content.{ReadsAs, DeviceHolds, half_of, room_for}
-use Rattle.rm_store.proofs.Framed.{reads_frames, reads_more, reads_one}
+use Rattle.rm_store.proofs.Framed.{framed_now, reads_frames, reads_more, reads_one}
 use Rattle.rm_store.proofs.Contents.{unchanged, added, refolded, framed_left, folded_twice}
 use Rattle.rm_store.proofs.compaction.Folded.{folded_none_stray}
 use Rattle.rm_disk.proofs.Views.{told_before}
@@ -152,7 +152,7 @@ kept_more v w a b content more op can framed stands sound no_build is goes had p
       let h = had was.0 was.1 in (
         h.0 ++ frame op ∷ [],
         put was.0 was.1 h.0 h.1 bytes told,
-        subst (λ (l : List Op). ReadsAs (h.0 ++ frame op ∷ []) l) (sym is) (reads_more h.0 content (frame op) op h.2 (record { can = can; is = refl })),
+        subst (λ (l : List Op). ReadsAs (h.0 ++ frame op ∷ []) l) (sym is) (reads_more h.0 content (frame op) op h.2 (framed_now op can)),
       );
 }
 
@@ -176,7 +176,7 @@ pub record IsAnew (v0 v1 : DiskView) (a a1 : AreasAt) (content left : List Op) (
   pub now : IfTold v1 (AreasHold a1 (map frame left))
 
 module _ {v0 v1 : DiskView} {a a1 : AreasAt} {content left : List Op} {op : Op} (anew : IsAnew v0 v1 a a1 content left op) where
-  left_framed : All IsOperation left
+  pub left_framed : All IsOperation left
   left_framed = subst (λ (l : List Op). All IsOperation l) (sym anew.is) (framed_left content anew.kept.framed)
 
   module _ (ops : List Op) (has : HasOps v0 ops) (fits : fits_records (records ops) op ≡ true) where

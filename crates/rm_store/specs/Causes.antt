@@ -8,7 +8,7 @@ use Rattle.rm_store.specs.Content.{IsFrameOf, ReadsAs, half_of}
 use Rattle.rm_store.specs.declared.fault.StoreError.{StoreError}
 use Rattle.rm_store.specs.declared.fault.StoreError.TheVariants.{Damaged, Stray}
 
--- The bytes hold the frames of these operations, of which none is stray, and then a payload whose gate stands at the
+-- The bytes hold payloads that read as these operations, of which none is stray, and then a payload whose gate stands at the
 -- offset. So they are damaged nowhere.
 pub record ReadsUpTo (bytes : List ℕ) (ops : List Op) (payload : List ℕ) (offset : ℕ) : Type 0 where
   pub second : Bool
@@ -20,7 +20,7 @@ pub record ReadsUpTo (bytes : List ℕ) (ops : List Op) (payload : List ℕ) (of
   pub none_stray : stray ops ≡ None
   pub place : offset ≡ area_from (half_of bytes) second + length (journal_records (head_of generation ++ given))
 
--- Behind such operations, the payload at the offset is the frame of none.
+-- Behind such operations, the payload at the offset reads as none.
 pub record HasNoFrameAt (bytes : List ℕ) (offset : ℕ) : Type 0 where
   pub ops : List Op
   pub payload : List ℕ
@@ -38,7 +38,7 @@ pub record HasStrayAt (bytes : List ℕ) (number offset : ℕ) : Type 0 where
   pub number_is : number ≡ length ops
 
 -- The bytes are why a store was refused: they are damaged at the offset, or they are damaged nowhere, and a payload of
--- the current area is no frame, or its operation is stray. Other refusals have no cause in the bytes.
+-- the current area reads as no operation, or its operation is stray. Other refusals have no cause in the bytes.
 abbrev pub IsWhy : List ℕ → StoreError → Type 0
 IsWhy bytes (Damaged offset) = IsDamagedLayout (half_of bytes) bytes offset ⊎ HasNoFrameAt bytes offset
 IsWhy bytes (Stray number offset) = HasStrayAt bytes number offset

@@ -9,10 +9,10 @@ use Rattle.rm_disk.specs.Disk.{DiskView, IfTold, AtEachMoment, EachImage}
 use Rattle.rm_journal.specs.declared.fault.JournalError.{JournalError}
 use Rattle.rm_journal.specs.declared.fault.JournalError.TheVariants.{DiskFault, Full, Memory}
 use Rattle.rm_journal.specs.two_areas.Areas.{AreasAt, AreasInvariant, AreasHold}
-use Rattle.rm_store.specs.Content.{ReadsAs, DeviceHolds, room_for}
+use Rattle.rm_store.specs.Content.{ReadsAs, HasFrames, HoldsFrames, DeviceHolds, room_for}
 
--- A content stands on two areas of a disk: they stand there, nothing is built, and the payloads of the current one are
--- the frames of these operations.
+-- A content stands on two areas of a disk: they stand there, nothing is built, and the payloads of the current one read as
+-- these operations.
 pub record IsKept (disk : DiskView) (areas : AreasAt) (content : List Op) : Type 0 where
   pub stands : AreasInvariant disk areas
   pub unbroken : areas.is_broken ≡ false
@@ -34,6 +34,14 @@ LeavesOps old new ops op = AtEachMoment old new (λ image. DeviceHolds image ops
 pub record AddsOp (disk : DiskView) (ops : List Op) (op : Op) : Type 0 where
   pub now : HasOps disk (ops ++ op ∷ [])
   pub images : EachImage disk (λ image. DeviceHolds image (ops ++ op ∷ []))
+
+-- A disk's payloads are the frames of these operations as they are written now, and those of whatever a crash now leaves of it.
+abbrev pub TellsFrames : DiskView → List Op → Type 0
+TellsFrames disk ops = IfTold disk (λ bytes. HasFrames bytes ops × EachImage disk (λ image. HasFrames image ops))
+
+-- Where a disk's payloads are frames as they are written now, each moment leaves such frames alone.
+abbrev pub KeepsFrames : DiskView → DiskView → Type 0
+KeepsFrames old new = IfTold old (λ bytes. HoldsFrames bytes → AtEachMoment old new HoldsFrames)
 
 -- How many bytes an area must have left for one more operation: its frame's, a length's, and two gates'.
 abbrev pub needed_for : Op → ℕ

@@ -1,4 +1,4 @@
-ghost use Rattle.std.specs.Prelude.{◌≡◌, ◌+◌, ◌-◌, ◌⊎◌, ◌<◌, ◌≤◌, ◌^◌, ℕ, List, [], ◌∷◌, ◌++◌, true, false, None, All, map, sum, length, is_ok, OnOk, IfOk, IfErr, IsErrOf, Err};
+ghost use Rattle.std.specs.Prelude.{◌≡◌, ◌≢◌, ◌+◌, ◌-◌, ◌⊎◌, ◌<◌, ◌≤◌, ◌^◌, ℕ, List, [], ◌∷◌, ◌++◌, true, false, None, All, map, sum, length, is_ok, OnOk, IfOk, IfErr, IsErrOf, Err};
 ghost use Rattle.rm_types.specs.declared.operations.Op.{Op as AnyOp};
 ghost use Rattle.rm_types.specs.Folded.{folded};
 ghost use Rattle.rm_types.specs.Ranges.{IsOperation};
@@ -10,7 +10,7 @@ ghost use Rattle.rm_journal.specs.declared.journal.TheConstants.{CALLS_OF_APPEND
 ghost use Rattle.rm_journal.specs.two_areas.Areas.{AreasInvariant, AreasHold, HoldsPayloads, LeavesEitherLayout};
 ghost use Rattle.rm_store.specs.Changing.{IsChangeError};
 ghost use Rattle.rm_store.specs.Content.{room_for};
-ghost use Rattle.rm_store.specs.Kept.{IsKept, HasOps, LeavesOps, AddsOp, IsFull, IsPutError, needed_for, room_here, told_room, calls_of_change};
+ghost use Rattle.rm_store.specs.Kept.{IsKept, HasOps, LeavesOps, AddsOp, TellsFrames, KeepsFrames, IsFull, IsPutError, needed_for, room_here, told_room, calls_of_change};
 ghost use Rattle.rm_store.specs.Store.{KeepsOwn};
 
 use crate::changing::change_area;
@@ -38,6 +38,7 @@ fn put<D: Disk>(
     requires room { needed_for op.now ≤ room_here areas.old }
     ensures stands { AreasInvariant (D.view disk.new) areas.new }
     ensures unbroken { OnOk result (areas.new.is_broken ≡ false) }
+    ensures generation { areas.new.generation ≡ areas.old.generation }
     ensures no_build { areas.new.build ≡ None }
     ensures any_moment { IfTold (D.view disk.old) (λ bytes. (payloads : List (List ℕ)) → AreasHold areas.old payloads bytes → LeavesEitherLayout (D.view disk.old) (D.view disk.new) areas.old.half payloads (payloads ++ frame op.now ∷ [])) }
     ensures added { OnOk result (IfTold (D.view disk.old) (λ bytes. (payloads : List (List ℕ)) → AreasHold areas.old payloads bytes → HoldsPayloads (D.view disk.new) areas.old.half (payloads ++ frame op.now ∷ []))) }
@@ -79,6 +80,8 @@ fn append_here<D: Disk>(
     ensures stays { OnOk result (IsKept (D.view disk.new) areas.new content.new) }
     ensures any_moment { (ops : List AnyOp) → HasOps (D.view disk.old) ops → fits_records (records ops) op.now ≡ true → LeavesOps (D.view disk.old) (D.view disk.new) ops op.now }
     ensures added { OnOk result ((ops : List AnyOp) → HasOps (D.view disk.old) ops → fits_records (records ops) op.now ≡ true → AddsOp (D.view disk.new) ops op.now) }
+    ensures generation { areas.new.generation ≡ areas.old.generation }
+    ensures frames { KeepsFrames (D.view disk.old) (D.view disk.new) }
     ensures kept { D.keeps (is_ok result) disk.old disk.new }
     ensures counted { D.counted disk.new ≤ D.counted disk.old + CALLS_OF_APPEND }
     ensures own { KeepsOwn (D.view disk.old) (D.view disk.new) }
@@ -111,6 +114,8 @@ fn append_anew<D: Disk>(
     ensures stays { OnOk result (IsKept (D.view disk.new) areas.new content.new) }
     ensures any_moment { (ops : List AnyOp) → HasOps (D.view disk.old) ops → fits_records (records ops) op.now ≡ true → LeavesOps (D.view disk.old) (D.view disk.new) ops op.now }
     ensures added { OnOk result ((ops : List AnyOp) → HasOps (D.view disk.old) ops → fits_records (records ops) op.now ≡ true → AddsOp (D.view disk.new) ops op.now) }
+    ensures frames { KeepsFrames (D.view disk.old) (D.view disk.new) }
+    ensures anew { OnOk result (TellsFrames (D.view disk.new) content.new) }
     ensures kept { D.keeps (is_ok result) disk.old disk.new }
     ensures counted { D.counted disk.new ≤ D.counted disk.old + calls_of_change areas.old content.old + CALLS_OF_APPEND }
     ensures own { KeepsOwn (D.view disk.old) (D.view disk.new) }
@@ -178,6 +183,8 @@ pub fn append<D: Disk>(
     ensures stays { OnOk result (IsKept (D.view disk.new) areas.new content.new) }
     ensures any_moment { (ops : List AnyOp) → HasOps (D.view disk.old) ops → fits_records (records ops) op.now ≡ true → LeavesOps (D.view disk.old) (D.view disk.new) ops op.now }
     ensures added { OnOk result ((ops : List AnyOp) → HasOps (D.view disk.old) ops → fits_records (records ops) op.now ≡ true → AddsOp (D.view disk.new) ops op.now) }
+    ensures frames { KeepsFrames (D.view disk.old) (D.view disk.new) }
+    ensures anew { OnOk result (areas.new.generation ≢ areas.old.generation → TellsFrames (D.view disk.new) content.new) }
     ensures kept { D.keeps (is_ok result) disk.old disk.new }
     ensures counted { D.counted disk.new ≤ D.counted disk.old + calls_of_change areas.old content.old + CALLS_OF_APPEND }
     ensures few { 1 ≤ areas.old.generation → needed_for op.now ≤ room_here areas.old → D.counted disk.new ≤ D.counted disk.old + CALLS_OF_APPEND }

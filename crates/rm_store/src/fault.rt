@@ -11,8 +11,8 @@ pub enum StoreError {
     #[error("the disk failed")]
     DiskFault,
     /// The disk's areas are damaged at this offset: an area is live there without a generation, or with that of
-    /// the other one, or an open gate stands before no record; or a payload, whose gate stands there, isn't
-    /// exactly the frame of an operation.
+    /// the other one, or an open gate stands before no record; or a payload, whose gate stands there, reads
+    /// as no operation.
     #[error("the store is damaged at byte {offset}")]
     Damaged { offset: u64 },
     /// The operation of this number, counted from 0, doesn't fit those before it; its gate stands at this

@@ -109,7 +109,7 @@ fn take_in(
     }
 }
 
-/// The operation whose frame a payload is. `None` comes exactly where it is that of none; want of memory may be answered of any.
+/// The operation as which a payload reads. `None` comes exactly where it reads as none; want of memory may be answered of any.
 pub fn operation_of(alloc: Global, payload: &[u8]) -> Result<Option<Op>, NoMemory>
     ensures some { IfOk result (λ answer. IfSome answer (IsFrameOf payload.now)) }
     ensures none { IfOk result (λ answer. IfNone answer ((op : AnyOp) → IsFrameOf payload.now op → ⊥)) }

@@ -1,4 +1,4 @@
-ghost use Rattle.std.specs.Prelude.{◌≡◌, ◌⊎◌, ◌↔◌, ◌+◌, ◌<◌, ◌≤◌, ℕ, List, Bool, true, false, is_ok, OnOk, IfOk, IfErr, IsErrOf, MatchResult, Err};
+ghost use Rattle.std.specs.Prelude.{◌≡◌, ◌≢◌, ◌⊎◌, ◌↔◌, ◌+◌, ◌<◌, ◌≤◌, ℕ, List, Bool, true, false, is_ok, OnOk, IfOk, IfErr, IsErrOf, MatchResult, Err};
 ghost use Rattle.rm_types.specs.declared.operations.Op.{Op as AnyOp};
 ghost use Rattle.rm_types.specs.Ranges.{IsOperation};
 ghost use Rattle.rm_types.specs.Records.{records, fits_records};
@@ -8,7 +8,7 @@ ghost use Rattle.rm_journal.specs.declared.journal.TheConstants.{CALLS_OF_APPEND
 ghost use Rattle.rm_store.specs.Causes.{IsWhy, IsFaultless};
 ghost use Rattle.rm_store.specs.Content.{HasContent};
 ghost use Rattle.rm_store.specs.Errors.{IsOpenError, IsStoreAppendError, IsStoreRefusal, store_broken_after};
-ghost use Rattle.rm_store.specs.Kept.{HasOps, LeavesOps, AddsOp, IsFull, needed_for, room_here, told_room, calls_of_change};
+ghost use Rattle.rm_store.specs.Kept.{HasOps, LeavesOps, AddsOp, TellsFrames, KeepsFrames, IsFull, needed_for, room_here, told_room, calls_of_change};
 ghost use Rattle.rm_store.specs.Store.{with_disk, seen, StoreInvariant, IsBelowLast, AreRead, LooksOwn, StaysOwn, room_behind};
 
 use crate::fault::StoreError;
@@ -100,7 +100,8 @@ impl<D: Disk> Store<D> {
 
     /// Adds an operation, whose parts are in their ranges, behind those that are stored. Nothing but this
     /// store changed the disk's bytes since it was opened. Where the current area has no room for it, the other
-    /// one is written anew first, with what is left of the stored operations, and takes its place.
+    /// one is written anew first, with what is left of the stored operations, and takes its place: so there is no frame of an
+    /// older form in an area that this program began.
     ///
     /// At every moment a crash leaves the operations from before, or these and the new one; after `Ok` it
     /// leaves the new one too. `NeedsReopen` comes exactly where an earlier append answered `DiskFault` or
@@ -118,6 +119,11 @@ impl<D: Disk> Store<D> {
         // A crash at any moment leaves the operations from before, or these and the new one.
         ensures any_moment { self.old.is_broken ≡ false → (ops : List AnyOp) → HasOps (seen D.view self.old.disk) ops → fits_records (records ops) op.now ≡ true → LeavesOps (seen D.view self.old.disk) (seen D.view self.new.disk) ops op.now }
         ensures added { OnOk result ((ops : List AnyOp) → HasOps (seen D.view self.old.disk) ops → fits_records (records ops) op.now ≡ true → AddsOp (seen D.view self.new.disk) ops op.now) }
+
+        // An area that is written anew has the frames of now alone, and one that has them alone gets no other.
+        ensures anew { OnOk result (self.new.areas.generation ≢ self.old.areas.generation → TellsFrames (seen D.view self.new.disk) self.new.content) }
+        ensures frames { self.old.is_broken ≡ false → KeepsFrames (seen D.view self.old.disk) (seen D.view self.new.disk) }
+
         ensures kept { KeepsFuse D.view (D.keeps (is_ok result)) (is_ok result) self.old.disk self.new.disk }
         ensures counted { self.new.disk.passed ≤ self.old.disk.passed + calls_of_change self.old.areas self.old.content + CALLS_OF_APPEND }
         ensures few { 1 ≤ self.old.areas.generation → needed_for op.now ≤ room_here self.old.areas → self.new.disk.passed ≤ self.old.disk.passed + CALLS_OF_APPEND }

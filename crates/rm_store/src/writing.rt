@@ -1,4 +1,4 @@
-ghost use Rattle.std.specs.Prelude.{◌≡◌, ◌⊎◌, ◌+◌, ◌<◌, ◌≤◌, ℕ, List, true, false, is_ok, OnOk, IfErr, IsErrOf, Err};
+ghost use Rattle.std.specs.Prelude.{◌≡◌, ◌≢◌, ◌⊎◌, ◌+◌, ◌<◌, ◌≤◌, ℕ, List, true, false, is_ok, OnOk, IfErr, IsErrOf, Err};
 ghost use Rattle.rm_types.specs.declared.operations.Op.{Op as AnyOp};
 ghost use Rattle.rm_types.specs.Ranges.{IsOperation};
 ghost use Rattle.rm_types.specs.Records.{records, fits_records};
@@ -6,7 +6,7 @@ ghost use Rattle.rm_disk.specs.Disk.{IsLaterView};
 ghost use Rattle.rm_journal.specs.declared.journal.TheConstants.{CALLS_OF_APPEND};
 ghost use Rattle.rm_journal.specs.two_areas.Areas.{AreasInvariant};
 ghost use Rattle.rm_store.specs.Errors.{IsWriteError, store_broken_after};
-ghost use Rattle.rm_store.specs.Kept.{IsKept, HasOps, LeavesOps, AddsOp, IsFull, needed_for, room_here, told_room, calls_of_change};
+ghost use Rattle.rm_store.specs.Kept.{IsKept, HasOps, LeavesOps, AddsOp, TellsFrames, KeepsFrames, IsFull, needed_for, room_here, told_room, calls_of_change};
 ghost use Rattle.rm_store.specs.Store.{KeepsOwn};
 
 use crate::appending::append;
@@ -33,6 +33,8 @@ pub fn write_op<D: Disk>(
     ensures stays { store_broken_after result false ≡ false → IsKept (D.view disk.new) areas.new content.new }
     ensures any_moment { (ops : List AnyOp) → HasOps (D.view disk.old) ops → fits_records (records ops) op.now ≡ true → LeavesOps (D.view disk.old) (D.view disk.new) ops op.now }
     ensures added { OnOk result ((ops : List AnyOp) → HasOps (D.view disk.old) ops → fits_records (records ops) op.now ≡ true → AddsOp (D.view disk.new) ops op.now) }
+    ensures frames { KeepsFrames (D.view disk.old) (D.view disk.new) }
+    ensures anew { OnOk result (areas.new.generation ≢ areas.old.generation → TellsFrames (D.view disk.new) content.new) }
     ensures kept { D.keeps (is_ok result) disk.old disk.new }
     ensures counted { D.counted disk.new ≤ D.counted disk.old + calls_of_change areas.old content.old + CALLS_OF_APPEND }
     ensures few { 1 ≤ areas.old.generation → needed_for op.now ≤ room_here areas.old → D.counted disk.new ≤ D.counted disk.old + CALLS_OF_APPEND }

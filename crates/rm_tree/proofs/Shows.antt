@@ -1,5 +1,6 @@
 -- An operation that fits records shows in those after it, and not in those before.
 use Rattle.std.proofs.Common.{◌≡◌, ℕ, ◌+◌, ◌==◌, Bool, true, false, not, ◌&&◌, nat_lt, List, [], ◌∷◌, ◌++◌, length, map, filter, Option, None, Some, is_none, is_some, refl, arith}
+use Rattle.std.specs.List.{list_any}
 use Rattle.std.specs.Option.{option_map}
 use Rattle.std.proofs.lemmas.Bool.Decides.{nat_tests}
 use Rattle.std.proofs.lemmas.Bool.{and_parts}
@@ -12,10 +13,9 @@ use Rattle.rm_types.specs.declared.operations.Submission.{Submission}
 use Rattle.rm_types.specs.declared.records.AppRecord.{AppRecord}
 use Rattle.rm_types.specs.declared.records.AttemptRecord.{AttemptRecord}
 use Rattle.rm_types.specs.Ids.{is_app, is_attempt}
-use Rattle.rm_types.specs.Lists.{is_nil}
 use Rattle.rm_types.specs.Records.{Records, all_ended, fits_records, is_some_and, last_attempt, new_record, record_of, recorded, with_end, with_record}
 use Rattle.rm_types.proofs.IdLemmas.{app_itself}
-use Rattle.rm_tree.specs.Changes.{is_unended_last, with_attempt, with_ended, with_ending}
+use Rattle.rm_tree.specs.Changes.{is_end_recorded, is_unended_last, with_attempt, with_ended, with_ending}
 use Rattle.rm_tree.specs.Shows.{shows}
 
 -- the record of an application that was changed, where its id stays
@@ -52,23 +52,49 @@ length_more : (attempts : List AttemptRecord) (one : AttemptRecord) → length (
 length_more [] one = refl
 length_more (first ∷ attempts) one = let n = length_more attempts one in omega (arith, n)
 
--- an attempt that ended is not the one that goes on
-ended_last : (id : AttemptId) (how : How) (text : List ℕ) (attempts : List AttemptRecord) → is_some_and (λ last. is_attempt last.id id && is_none last.ending) (last_attempt (map (with_end id how text) attempts)) ≡ false
-ended_last id how text [] = refl
-ended_last id how text (one ∷ []) = by (is_attempt one.id id) refl
+-- the attempt that goes on stands there without an end
+last_stands : (id : AttemptId) (attempts : List AttemptRecord) → is_some_and (λ last. is_attempt last.id id && is_none last.ending) (last_attempt attempts) ≡ true
+    → list_any (λ one. is_attempt one.id id && is_none one.ending) attempts ≡ true
+last_stands id [] e = cc
+last_stands id (one ∷ []) e = rw e refl
+last_stands id (one ∷ next ∷ more) e = by (is_attempt one.id id && is_none one.ending) refl (last_stands id (next ∷ more) e)
   where
-    by : (b : Bool) → is_attempt one.id id ≡ b → (is_attempt (with_end id how text one).id id && is_none (with_end id how text one).ending) ≡ false
-    by true e = rw (e, e) refl
-    by false e = rw (e, e) refl
-ended_last id how text (one ∷ next ∷ more) = ended_last id how text (next ∷ more)
+    by : (b : Bool) → (is_attempt one.id id && is_none one.ending) ≡ b → list_any (λ one. is_attempt one.id id && is_none one.ending) (next ∷ more) ≡ true
+        → list_any (λ one. is_attempt one.id id && is_none one.ending) (one ∷ next ∷ more) ≡ true
+    by true t rest = rw t refl
+    by false f rest = rw f rest
 
-nil_map : (f : AttemptRecord → AttemptRecord) (attempts : List AttemptRecord) → is_nil (map f attempts) ≡ is_nil attempts
-nil_map f [] = refl
-nil_map f (one ∷ more) = refl
+-- what stands there without an end stands there
+unended_stands : (id : AttemptId) (attempts : List AttemptRecord) → list_any (λ one. is_attempt one.id id && is_none one.ending) attempts ≡ true → list_any (λ one. is_attempt one.id id) attempts ≡ true
+unended_stands id [] e = cc
+unended_stands id (one ∷ more) e = by (is_attempt one.id id) refl (unended_stands id more)
+  where
+    by : (b : Bool) → is_attempt one.id id ≡ b → (list_any (λ one. is_attempt one.id id && is_none one.ending) more ≡ true → list_any (λ one. is_attempt one.id id) more ≡ true)
+        → list_any (λ one. is_attempt one.id id) (one ∷ more) ≡ true
+    by true t rest = rw t refl
+    by false f rest = rw f (rest (rw f at e))
 
-not_nil : (attempts : List AttemptRecord) (test : AttemptRecord → Bool) → is_some_and test (last_attempt attempts) ≡ true → is_nil attempts ≡ false
-not_nil [] test e = cc
-not_nil (one ∷ more) test e = refl
+-- with its end it still stands there
+ended_stands : (id : AttemptId) (how : How) (text : List ℕ) (attempts : List AttemptRecord)
+    → list_any (λ one. is_attempt one.id id) (map (with_end id how text) attempts) ≡ list_any (λ one. is_attempt one.id id) attempts
+ended_stands id how text [] = refl
+ended_stands id how text (one ∷ more) = by (is_attempt one.id id) refl (ended_stands id how text more)
+  where
+    by : (b : Bool) → is_attempt one.id id ≡ b → list_any (λ one. is_attempt one.id id) (map (with_end id how text) more) ≡ list_any (λ one. is_attempt one.id id) more
+        → list_any (λ one. is_attempt one.id id) (map (with_end id how text) (one ∷ more)) ≡ list_any (λ one. is_attempt one.id id) (one ∷ more)
+    by true t rest = rw (t, t) refl
+    by false f rest = rw (f, f) rest
+
+-- and not without one
+none_unended : (id : AttemptId) (how : How) (text : List ℕ) (attempts : List AttemptRecord)
+    → list_any (λ one. is_attempt one.id id && is_none one.ending) (map (with_end id how text) attempts) ≡ false
+none_unended id how text [] = refl
+none_unended id how text (one ∷ more) = by (is_attempt one.id id) refl (none_unended id how text more)
+  where
+    by : (b : Bool) → is_attempt one.id id ≡ b → list_any (λ one. is_attempt one.id id && is_none one.ending) (map (with_end id how text) more) ≡ false
+        → list_any (λ one. is_attempt one.id id && is_none one.ending) (map (with_end id how text) (one ∷ more)) ≡ false
+    by true t rest = rw (t, t) rest
+    by false f rest = rw (f, f) rest
 
 module _ (r : Records) where
   attempt_before : (id : AttemptId) (found : Option AppRecord) → is_some_and (λ app. is_none app.ending && (all_ended app.attempts && (id.number == length app.attempts + 1))) found ≡ true
@@ -86,15 +112,15 @@ module _ (r : Records) where
       let more = length_more app.attempts one in
       grind (arith, nat_tests)
 
-  end_before : (id : AttemptId) (found : Option AppRecord) → is_some_and (λ app. is_unended_last id app) found ≡ true
-      → is_some_and (λ app. not (is_nil app.attempts) && not (is_unended_last id app)) found ≡ false
+  end_before : (id : AttemptId) (found : Option AppRecord) → is_some_and (λ app. is_unended_last id app) found ≡ true → is_some_and (λ app. is_end_recorded id app) found ≡ false
   end_before id None e = refl
-  end_before id (Some app) e = rw (e, not_nil app.attempts _ e) refl
+  end_before id (Some app) e = let without = last_stands id app.attempts e in rw (without, unended_stands id app.attempts without) refl
 
   end_after : (id : AttemptId) (how : How) (text : List ℕ) (found : Option AppRecord) → is_some_and (λ app. is_unended_last id app) found ≡ true
-      → is_some_and (λ app. not (is_nil app.attempts) && not (is_unended_last id app)) (option_map (with_ended id how text) found) ≡ true
+      → is_some_and (λ app. is_end_recorded id app) (option_map (with_ended id how text) found) ≡ true
   end_after id how text None e = cc
-  end_after id how text (Some app) e = rw (nil_map (with_end id how text) app.attempts, not_nil app.attempts _ e, ended_last id how text app.attempts) refl
+  end_after id how text (Some app) e =
+      rw (ended_stands id how text app.attempts, unended_stands id app.attempts (last_stands id app.attempts e), none_unended id how text app.attempts) refl
 
   ending_before : (found : Option AppRecord) → is_some_and (λ app. is_none app.ending && all_ended app.attempts) found ≡ true → is_some_and (λ app. is_some app.ending) found ≡ false
   ending_before None e = refl

@@ -1,5 +1,6 @@
 -- What operations change of an application's record.
-use Rattle.std.specs.Prelude.{◌≡◌, true, ℕ, ◌+◌, ◌==◌, List, [], ◌∷◌, ◌++◌, length, map, Bool, ◌&&◌, is_none, Some}
+use Rattle.std.specs.Prelude.{◌≡◌, true, ℕ, ◌+◌, ◌==◌, List, [], ◌∷◌, ◌++◌, length, map, Bool, ◌&&◌, not, is_none, Some}
+use Rattle.std.specs.List.{list_any}
 use Rattle.rm_types.specs.declared.ids.AttemptId.{AttemptId}
 use Rattle.rm_types.specs.declared.operations.How.{How}
 use Rattle.rm_types.specs.declared.records.AppRecord.{AppRecord}
@@ -27,6 +28,10 @@ is_next number app = number == length app.attempts + 1
 -- the attempt is the last, and goes on
 abbrev pub is_unended_last : AttemptId → AppRecord → Bool
 is_unended_last id app = is_some_and (λ last. is_attempt last.id id && is_none last.ending) (last_attempt app.attempts)
+
+-- the attempt is recorded, with its end: a record of it stands there, and none without an end
+abbrev pub is_end_recorded : AttemptId → AppRecord → Bool
+is_end_recorded id app = list_any (λ one. is_attempt one.id id) app.attempts && not (list_any (λ one. is_attempt one.id id && is_none one.ending) app.attempts)
 
 -- the operation fits the applications' records, whatever the epoch and the stamp are
 pub record FitsApps (apps : List AppRecord) (op : Op) : Type 0 where

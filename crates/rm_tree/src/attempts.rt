@@ -1,7 +1,9 @@
 ghost use Rattle.std.specs.Prelude.{◌≡◌, ◌&&◌, ◌+◌, ◌==◌, length, is_none, IsTrue, OnOk, OnErr};
+ghost use Rattle.std.specs.List.{list_any};
 ghost use Rattle.std.specs.Option.{option_copied};
 ghost use Rattle.rm_types.specs.Records.{all_ended, last_attempt};
-ghost use Rattle.rm_tree.specs.Changes.{is_unended_last, with_ended};
+ghost use Rattle.rm_types.specs.Ids.{is_attempt};
+ghost use Rattle.rm_tree.specs.Changes.{is_end_recorded, is_unended_last, with_ended};
 ghost use Rattle.rm_tree.specs.Numbers.{AreAttemptsFrom};
 
 use rm_types::{AppRecord, AttemptId, AttemptRecord, Duplicate, How, NoMemory, Text};
@@ -42,6 +44,30 @@ pub fn is_unended_last(app: &AppRecord, id: AttemptId) -> bool
         Some(last) => last.id == id && last.ending.is_none(),
         None => false,
     }
+}
+
+/// Whether an attempt is among these.
+fn has_attempt(attempts: &[AttemptRecord], id: AttemptId) -> bool
+    ensures { result ≡ list_any (λ one. is_attempt one.id id) attempts.now }
+{
+    attempts.iter().any(|attempt| attempt.id == id)
+}
+
+/// Whether an attempt is among these without an end.
+fn has_unended(attempts: &[AttemptRecord], id: AttemptId) -> bool
+    ensures { result ≡ list_any (λ one. is_attempt one.id id && is_none one.ending) attempts.now }
+{
+    attempts
+        .iter()
+        .any(|attempt| attempt.id == id && attempt.ending.is_none())
+}
+
+/// Whether an attempt of an application is recorded with its end.
+pub fn is_end_recorded(app: &AppRecord, id: AttemptId) -> bool
+    ensures { result ≡ is_end_recorded id app.now }
+{
+    let attempts = app.attempts.as_slice();
+    has_attempt(attempts, id) && !has_unended(attempts, id)
 }
 
 /// Says how an application's last attempt ended, where the attempts are numbered and it is this one, which goes on. `NoMemory` leaves

@@ -8,7 +8,7 @@ ghost use Rattle.rm_types.specs.Ids.{is_app};
 ghost use Rattle.rm_types.specs.Records.{Records as AnyRecords, recorded, record_of, fits_records, no_records};
 
 use crate::apps::Apps;
-use crate::attempts::{has_stopped, is_next_attempt, is_unended_last};
+use crate::attempts::{has_stopped, is_end_recorded, is_next_attempt, is_unended_last};
 use rm_types::{AppId, AppRecord, Items, NoMemory, Op};
 use std::alloc::Global;
 use std::marker::Model;
@@ -167,7 +167,7 @@ impl Tree {
     }
 
     /// Whether an operation is among those that were applied, as far as the records tell: one that isn't stray shows
-    /// in the tree after it, and not in the tree before.
+    /// in the tree after it, and not in the tree before. The end of an attempt shows exactly where the attempt is recorded with an end.
     pub fn shows(&self, op: &Op) -> bool
         ensures shows { result ≡ shows self.now op.now }
         ensures before { fits_records self.now op.now ≡ true → result ≡ false }
@@ -188,7 +188,7 @@ impl Tree {
                 None => false,
             },
             Op::AttemptEnd { id, .. } => match self.apps.find(id.app) {
-                Some(app) => !app.attempts.is_empty() && !is_unended_last(app, *id),
+                Some(app) => is_end_recorded(app, *id),
                 None => false,
             },
             Op::AppEnd { id, .. } => match self.apps.find(*id) {

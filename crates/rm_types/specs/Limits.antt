@@ -1,7 +1,7 @@
 -- The greatest values that sizes, counts and stamps have wherever they stand: in a cluster file, a script, a message or a
 -- store. This project's own.
 use Rattle.std.specs.Prelude.{ℕ}
-use Rattle.rm_types.specs.declared.limits.TheConstants.{GREATEST_MEMORY_MB, GREATEST_VCORES, GREATEST_ATTEMPTS, GREATEST_STAMP, MOST_LINES, MOST_LISTED, GREATEST_PRIORITY, GREATEST_COUNT}
+use Rattle.rm_types.specs.declared.limits.TheConstants.{GREATEST_MEMORY_MB, GREATEST_VCORES, GREATEST_ATTEMPTS, GREATEST_STAMP, MOST_LINES, MOST_LISTED, MOST_SERVED, GREATEST_PRIORITY, GREATEST_COUNT}
 
 -- the most memory, in megabytes, of a container or a node: 16 TiB
 abbrev pub greatest_memory_mb : ℕ
@@ -23,9 +23,10 @@ greatest_stamp = GREATEST_STAMP
 abbrev pub most_lines : ℕ
 most_lines = MOST_LINES
 
--- how many messages are served in one life at most: each is a line of the script
+-- how many messages are served in one life at most: an id is given by a message of its own, so that ids stay below 2^31; a message leads to at most
+-- 256 grants, so that sequences stay below 2^40; and to at most 10^9 milliseconds, so that the clock stays below 2^63
 abbrev pub most_served : ℕ
-most_served = most_lines
+most_served = MOST_SERVED
 
 -- how many items a list of a message has at most
 abbrev pub most_listed : ℕ

@@ -37,7 +37,7 @@ pub record IsContainerId (id : ContainerId) : Type 0 where
 abbrev pub IsText : TextKind → List ℕ → Type 0
 IsText kind text = fault_of kind text ≡ None
 
--- the parts of a submission are in their ranges; none asks yet that the containers of a failed attempt are kept
+-- the parts of a submission are in their ranges
 pub record IsSubmission (submission : Submission) : Type 0 where
   pub user : IsText Name submission.user
   pub queue : IsText Queue submission.queue
@@ -45,7 +45,6 @@ pub record IsSubmission (submission : Submission) : Type 0 where
   pub memory_mb : IsWithin 1 greatest_memory_mb submission.master.memory_mb
   pub vcores : IsWithin 1 greatest_vcores submission.master.vcores
   pub attempts : IsWithin 0 greatest_attempts submission.attempts
-  pub keep : submission.keep ≡ false
   pub modify : IsText AclText submission.modify
 
 -- the container is one of this attempt

@@ -37,7 +37,8 @@ pub use ids::{AppId, AttemptId, ContainerId};
 pub use items::{Items, push_both};
 pub use limits::{
     EPOCHS, GREATEST_ATTEMPTS, GREATEST_COUNT, GREATEST_MEMORY_MB, GREATEST_PRIORITY,
-    GREATEST_STAMP, GREATEST_VCORES, MOST_LINES, MOST_LISTED, NUMBERS, SEQUENCES, STAMPS,
+    GREATEST_STAMP, GREATEST_VCORES, MOST_LINES, MOST_LISTED, MOST_SERVED, NUMBERS, SEQUENCES,
+    STAMPS,
 };
 pub use messages::{ClientAsk, ClockAsk, Lane, MasterAsk, Message, NodeAsk, Sender, Sent};
 pub use operations::{How, Op, Submission, Submitted};

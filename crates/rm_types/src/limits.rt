@@ -15,6 +15,10 @@ pub const GREATEST_STAMP: u64 = 1_000_000_000_000_000;
 /// How many lines a script may have.
 pub const MOST_LINES: u32 = 100_000;
 
+/// How many messages are served in one life at most, 2^31 - 1: so the ids that a life gives, the sequences of its containers
+/// and its clock stay in their ranges, whatever the messages are.
+pub const MOST_SERVED: u32 = 2_147_483_647;
+
 /// How many items a list of a message has at most.
 pub const MOST_LISTED: usize = 1000;
 

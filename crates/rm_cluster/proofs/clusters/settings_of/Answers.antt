@@ -1,6 +1,5 @@
 use Rattle.std.proofs.Common.{arith, Some, sym, ◌∙◌, ap}
 use Rattle.serde_json.specs.View.{view}
-use Rattle.rm_types.specs.declared.settings.Settings.{Settings}
 use Rattle.rm_cluster.specs.Rules.{first_broken}
 use Rattle.rm_cluster.proofs.Refusals.{refused_at}
 use Rattle.rm_cluster.proofs.Ranges.{in_range}
@@ -50,6 +49,11 @@ pub returns-in_err-queues-clause-refused : goal.returns-in_err-queues-clause-ref
 unfolding first_broken
 returns-in_err-queues-clause-refused c = refused_at (view c.args.file.now) _ c.from_residual-in_err-queues.ensures.1 c.in_err-queues.ensures.value c.in_err-queues.ensures.ok_part c.refused-11.ensures (grind arith)
 
+pub returns-in_err-recover_ended_containers-clause-refused : goal.returns-in_err-recover_ended_containers-clause-refused
+unfolding first_broken
+returns-in_err-recover_ended_containers-clause-refused c =
+    refused_at (view c.args.file.now) _ c.from_residual-in_err-recover_ended_containers.ensures.1 c.in_err-recover_ended_containers.ensures.value c.in_err-recover_ended_containers.ensures.ok_part c.refused-12.ensures (grind arith)
+
 pub returns-clause-read : goal.returns-clause-read
 unfolding first_broken
 returns-clause-read c = record {
@@ -64,7 +68,7 @@ returns-clause-read c = record {
   max_vcores = sym c.max_vcores_of.ensures ∙ c.in_ok-vcores.ensures.ok_part;
   groups = sym c.in_ok-groups_of.ensures ∙ c.in_ok-groups.ensures.ok_part;
   queues = sym c.in_ok-queues_of.ensures ∙ c.in_ok-queues.ensures.ok_part;
-  recover_ended_containers = ap (λ (settings : Settings). settings.recover_ended_containers) c.empty.ensures;
+  recover_ended_containers = sym c.recover_ended_containers_of.ensures ∙ c.in_ok-recover_ended_containers.ensures.ok_part;
 }
 
 pub returns-clause-in_range : goal.returns-clause-in_range

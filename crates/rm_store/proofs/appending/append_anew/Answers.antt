@@ -3,6 +3,7 @@ use Rattle.rm_store.specs.Store.{KeepsOwn}
 use Rattle.rm_store.proofs.Contents.{framed_left}
 use Rattle.rm_store.proofs.Owned.{still_keeps, own_after, changed_own}
 use Rattle.rm_store.proofs.Puts.{IsAnew, left_in_front, ops_same, room_enough, room_after, refold_only, both_leave, both_add, both_kept}
+use Rattle.rm_store.proofs.Written.{still_frames, changed_frames, both_frames, both_tell}
 use Rattle.rm_store.proofs.appending.append_anew.Goals.{After-change_area, In_ok-change_area}
 use Rattle.rm_store.proofs.appending.append_anew.Goals as goal
 
@@ -83,3 +84,25 @@ returns-in_err-put-clause-own g c = own_after _ _ _ c.change_area.ensures.goes_o
 
 pub returns-clause-own : goal.returns-clause-own
 returns-clause-own g c = own_after _ _ _ c.change_area.ensures.goes_on (changed g (goal.at.returns-clause-own g c).After-change_area) c.put.ensures.own
+
+pub returns-in_default-clause-frames : goal.returns-in_default-clause-frames
+returns-in_default-clause-frames g c = still_frames (g.D.Disk.view c.args.disk.now) c.args.areas.now c.args.content.now c.requires.kept (λ image now. g.met.D.Disk.as_it_reads c.args.disk.now image now)
+
+pub returns-in_err-change_area-clause-frames : goal.returns-in_err-change_area-clause-frames
+returns-in_err-change_area-clause-frames g c =
+    let is = left_in_front c.args.content.now c.args.op.now (c.as_slice.ensures ∙ c.in-Ok.ensures) c.len-many.ensures c.requires.left in
+    changed_frames (g.D.Disk.view c.args.disk.now) (g.D.Disk.view c.change_area.new.disk) (take c.len-many.result c.as_slice.result.now) c.requires.kept (subst (λ (l : List Op). All IsOperation l) (sym is) (framed_left c.args.content.now c.requires.kept.framed)) c.change_area.ensures.any_moment
+
+pub returns-in_err-put-clause-frames : goal.returns-in_err-put-clause-frames
+returns-in_err-put-clause-frames g c =
+    both_frames (anew g (goal.at.returns-in_err-put-clause-frames g c).In_ok-change_area) (g.D.Disk.view c.put.new.disk) c.change_area.ensures.any_moment c.put.ensures.any_moment
+
+pub returns-clause-frames : goal.returns-clause-frames
+returns-clause-frames g c =
+    both_frames (anew g (goal.at.returns-clause-frames g c).In_ok-change_area) (g.D.Disk.view c.put.new.disk) c.change_area.ensures.any_moment c.put.ensures.any_moment
+
+pub returns-clause-anew : goal.returns-clause-anew
+returns-clause-anew g c =
+    let there = anew g (goal.at.returns-clause-anew g c).In_ok-change_area in
+    let more = c.in-Ok.ensures ∙ ap (λ (l : List Op). l ++ c.args.op.now ∷ []) (c.requires.left ∙ sym there.is) in
+    both_tell there more c.put.ensures.goes_on c.in_ok-put.ensures.added

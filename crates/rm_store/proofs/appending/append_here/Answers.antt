@@ -1,5 +1,6 @@
 use Rattle.rm_store.proofs.Owned.{still_keeps}
 use Rattle.rm_store.proofs.Puts.{ops_same, there_is, put_leaves, put_adds, kept_more, ok_of, both_ok}
+use Rattle.rm_store.proofs.Written.{still_frames, put_frames}
 use Rattle.rm_store.proofs.appending.append_here.Goals as goal
 
 pub returns-in_default-clause-any_moment : goal.returns-in_default-clause-any_moment
@@ -32,3 +33,9 @@ returns-clause-added g c =
 
 pub returns-in_default-clause-own : goal.returns-in_default-clause-own
 returns-in_default-clause-own g c = still_keeps (g.D.Disk.view c.args.disk.now)
+
+pub returns-in_default-clause-frames : goal.returns-in_default-clause-frames
+returns-in_default-clause-frames g c = still_frames (g.D.Disk.view c.args.disk.now) c.args.areas.now c.args.content.now c.requires.kept (λ image now. g.met.D.Disk.as_it_reads c.args.disk.now image now)
+
+pub returns-clause-frames : goal.returns-clause-frames
+returns-clause-frames g c = put_frames (g.D.Disk.view c.args.disk.now) (g.D.Disk.view c.put.new.disk) c.args.areas.now c.args.content.now c.args.op.now c.requires.kept c.requires.op c.put.ensures.any_moment

@@ -1,5 +1,5 @@
 use Rattle.rm_store.proofs.Common.{◌≡◌, true, false, List, sym, ap, subst, ◌∙◌, arith, Op, records, fits_records}
-use Rattle.rm_store.specs.Kept.{HasOps, LeavesOps, told_room}
+use Rattle.rm_store.specs.Kept.{HasOps, LeavesOps, KeepsFrames, told_room}
 use Rattle.rm_store.specs.Store.{seen, IsBelowLast, LooksOwn, StaysOwn, room_behind}
 use Rattle.rm_store.proofs.Rooms.{room_told}
 use Rattle.rm_store.proofs.store.Store.append.Goals as goal
@@ -34,3 +34,8 @@ returns-clause-own g c =
     let view = g.D.Disk.view in
     subst (λ d. (ops : List Op) → HasOps (seen view d) ops → LooksOwn (seen view d) → StaysOwn (seen view d) (seen view c.write_op-outcome.new.disk))
     (ap (λ s. s.disk) c.self.view_is) (λ ops has own. c.write_op-outcome.ensures.own has.bytes has.told own)
+
+pub returns-clause-frames : goal.returns-clause-frames
+returns-clause-frames g c = λ sound.
+    let view = g.D.Disk.view in
+    subst (λ d. KeepsFrames (seen view d) (seen view c.write_op-outcome.new.disk)) (ap (λ s. s.disk) c.self.view_is) c.write_op-outcome.ensures.frames
