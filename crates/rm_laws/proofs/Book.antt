@@ -1,5 +1,5 @@
 -- The rows of the book are those that the log says.
-use Rattle.rm_laws.proofs.Common.{◌≡◌, ℕ, List, [], ◌∷◌, Bool, true, false, ◌||◌, ◌&&◌, not, if◌then◌else◌, Some, map, filter, refl, sym, ap, subst, ◌∙◌, bytes_eq, list_any-append, any-filter_same, and_parts, Grant, Held, ContainerId, is_container, same_text, same_container, NodeState, Row, Scene, has_container, ids_on, is_living, lives_elsewhere, lives_on, book_taken, row_absorbed, row_taken, taken_of, is_held, judged_node, row_granted}
+use Rattle.rm_laws.proofs.Common.{◌≡◌, ℕ, List, [], ◌∷◌, Bool, true, false, ◌||◌, ◌&&◌, not, if◌then◌else◌, Some, map, filter, refl, sym, ap, subst, ◌∙◌, bytes_eq, list_any-append, any-filter_same, and_parts, Grant, Held, ContainerId, is_container, same_text, same_container, NodeState, Row, Scene, Settings, has_container, ids_on, is_living, lives_elsewhere, lives_on, book_taken, row_absorbed, row_taken, taken_of, is_held, judged_node, row_granted}
 use Rattle.std.proofs.lemmas.List.Sorted.{list_any-IsPermutation}
 use Rattle.rm_types.specs.declared.containers.ContainerState.TheVariants.{Running}
 use Rattle.rm_types.specs.Order.{Ascend}
@@ -93,8 +93,8 @@ pub not_taken_apart : (m : Scene) (node : NodeState) (taken : List Held) (ended 
 not_taken_apart m node taken ended id ascend held = ended_test m node taken ended id ascend ∙ rw held refl
 
 -- what is taken lives on no other node
-pub taken_home : (m : Scene) (node : NodeState) → Each (λ held. lives_elsewhere m.life.book node.name held.id ≡ false) (taken_of m node)
-taken_home m node = each_taken m node (λ held. lives_elsewhere m.life.book node.name held.id ≡ false) (λ taken one free. free.home)
+pub taken_home : (settings : Settings) (m : Scene) (node : NodeState) → Each (λ held. lives_elsewhere m.life.book node.name held.id ≡ false) (taken_of settings m node)
+taken_home settings m node = each_taken settings m node (λ held. lives_elsewhere m.life.book node.name held.id ≡ false) (λ taken one free. free.home)
 
 pub each_held : (P : ContainerId → Type 0) (id : ContainerId) (taken : List Held) → Each (λ held. P held.id) taken → is_held taken id ≡ true → P id
 each_held P id [] h is = cc

@@ -20,7 +20,7 @@ each_once P [] h = tt
 each_once P (id ∷ ids) h = (h.0, each-filter P (λ other. not (is_container other id)) (once ids) (each_once P ids h.1))
 
 -- and a container of the list is there once
-has_once : (id : ContainerId) (ids : List ContainerId) → has_container ids id ≡ true → has_container (once ids) id ≡ true
+pub has_once : (id : ContainerId) (ids : List ContainerId) → has_container ids id ≡ true → has_container (once ids) id ≡ true
 has_once id [] h = h
 has_once id (one ∷ ids) h = go (is_container one id) refl h (has_once id ids)
   where
@@ -64,7 +64,7 @@ module _ (m : Scene) (name : List ℕ) (running : List Held) where
   by_phase told launches true next launch clean is = (cc, λ e. cc)
   by_phase told launches false next launch clean is = (cc, λ e. cc)
 
-not_both : (id last : ℕ) → (id + 1 == last) ≡ true → (id == last) ≡ true → ⊥
+pub not_both : (id last : ℕ) → (id + 1 == last) ≡ true → (id == last) ≡ true → ⊥
 not_both id last again new = grind (arith, nat_tests)
 
 module _ (m : Scene) (name : List ℕ) (id : ℕ) (running : List Held) where

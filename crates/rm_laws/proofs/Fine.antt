@@ -1,6 +1,6 @@
 -- What holds of each record of a store that has no stray operation: an ended application has ended attempts, and attempts are
 -- numbered up to how many they are.
-use Rattle.rm_laws.proofs.Common.{◌≡◌, ℕ, ◌+◌, List, [], ◌∷◌, ◌++◌, length, Bool, true, false, ◌&&◌, if◌then◌else◌, ◌==◌, Option, None, Some, is_some, is_none, map, fold, refl, sym, ap, subst, arith, ◌∙◌, nat_le, list_all, nat_tests, and_parts, AppId, AttemptId, ContainerId, How, Op, Epoch, App, Attempt, AttemptEnd, AppEnd, Remove, AppRecord, AttemptRecord, is_app, is_attempt, Records, recorded, record_of, with_record, with_end, fits_records, all_ended, is_some_and, last_attempt, none_from_is_none, same_app}
+use Rattle.rm_laws.proofs.Common.{◌≡◌, ℕ, ◌+◌, List, [], ◌∷◌, ◌++◌, length, Bool, true, false, ◌&&◌, ◌==◌, Option, None, Some, is_some, is_none, map, fold, refl, sym, ap, subst, arith, ◌∙◌, nat_le, list_all, nat_tests, and_parts, AppId, AttemptId, ContainerId, How, Op, Epoch, App, Attempt, AttemptEnd, AppEnd, Remove, AppRecord, AttemptRecord, is_app, is_attempt, Records, recorded, record_of, with_record, with_end, fits_records, all_ended, is_some_and, last_attempt, none_from_is_none, same_app}
 use Rattle.std.proofs.Common.{option_map, length-append}
 use Rattle.std.proofs.lemmas.List.Folds.{list_all-append}
 use Rattle.rm_types.proofs.EndLemmas.{length-ended, all_ended-map, id_ended}

@@ -4,7 +4,7 @@ use Rattle.rm_types.specs.declared.replies.Reply.TheVariants as replies
 use Rattle.rm_model.specs.State.{Registration}
 use Rattle.rm_model.specs.Containers.{released_by}
 use Rattle.rm_model.specs.Nodes.{tidied_node}
-use Rattle.rm_model.specs.MasterReplies.{untold_rows}
+use Rattle.rm_model.specs.MasterReplies.{late_rows, new_grants, row_kept, takes_over}
 use Rattle.rm_model.specs.NodeReplies.{beaten, new_node, node_after_registration}
 use Rattle.rm_laws.proofs.Messages.{Any, Changes, either, served}
 use Rattle.rm_laws.proofs.Grants.{made}
@@ -112,6 +112,12 @@ beaten_size on running launched row =
     either (λ (x : Row). x.size ≡ row.size) (not (bytes_eq row.node on)) _ _ refl
     (either (λ (x : Row). x.size ≡ row.size) (has_container running row.id) _ _ refl (either (λ (x : Row). x.size ≡ row.size) _ _ _ refl refl))
 
+row_kept_at : (told : List ContainerId) (row : Row) → ((row_kept told row).id ≡ row.id) × ((row_kept told row).node ≡ row.node)
+row_kept_at told row = (refl, refl)
+
+row_kept_size : (told : List ContainerId) (row : Row) → (row_kept told row).size ≡ row.size
+row_kept_size told row = refl
+
 beaten_at : (on : List ℕ) (running launched : List ContainerId) (row : Row) → ((row_beaten on running launched row).id ≡ row.id) × ((row_beaten on running launched row).node ≡ row.node)
 beaten_at on running launched row =
     either (λ (x : Row). (x.id ≡ row.id) × (x.node ≡ row.node)) (not (bytes_eq row.node on)) _ _ (refl, refl)
@@ -133,9 +139,12 @@ module _ (m : Scene) where
         joins = λ user id submission any new. same_rows m.life _ (λ name. refl) refl refl refl;
         wishes = λ id. same_rows m.life _ (λ name. refl) refl refl refl;
         registered = λ attempt any. same_rows m.life _ (λ name. refl) refl refl refl;
+        takes_over = λ attempt kept any.
+            changed_rows m.life (takes_over m attempt kept) (row_kept (map (λ one. one.id) kept)) (row_kept_at (map (λ one. one.id) kept)) (λ row. row_kept_size (map (λ one. one.id) kept) row)
+            (λ name. refl) refl refl refl;
         allocated = λ attempt id asks release next grants ended any.
             changed_rows m.life (allocates m attempt asks release (replies.Allocated next grants ended))
-            (row_allocated (map (λ row. row.id) (untold_rows m attempt)) (released_by m (record { attempt = attempt; list = release }))) (λ row. (refl, refl)) (λ row. refl) (λ name. refl) refl refl refl;
+            (row_allocated (map (λ row. row.id) (new_grants m attempt)) (map (λ row. row.id) (late_rows m attempt)) (released_by m (record { attempt = attempt; list = release }))) (λ row. (refl, refl)) (λ row. refl) (λ name. refl) refl refl refl;
         finishes = λ attempt text. same_rows m.life _ (λ name. refl) refl refl refl;
         node_registered = λ at registration reply.
             same_rows m.life (tidied (record m.life { nodes = nodes_registered m at registration reply (judged_node m.life.nodes at) }))

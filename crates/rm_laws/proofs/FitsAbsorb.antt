@@ -1,5 +1,5 @@
 -- An absorption leaves on a node what fits its new capability.
-use Rattle.rm_laws.proofs.Common.{◌≡◌, ℕ, ◌+◌, ◌<◌, ◌≤◌, List, [], ◌∷◌, ◌++◌, Bool, true, false, ◌||◌, ◌&&◌, not, cond, if◌then◌else◌, Option, None, Some, is_some, map, filter, count_by, refl, sym, ap, subst, arith, ◌∙◌, sum_by, nat_lt, bytes_eq, nat_tests, sum_by-append, or_right, Held, ContainerId, Resource, is_container, same_container, NodeState, Row, Scene, has_container, ids_on, lives_on, taken_of, is_held}
+use Rattle.rm_laws.proofs.Common.{◌≡◌, ℕ, ◌+◌, ◌<◌, ◌≤◌, List, [], ◌∷◌, ◌++◌, Bool, true, false, ◌||◌, ◌&&◌, not, cond, if◌then◌else◌, Option, None, Some, is_some, map, filter, count_by, refl, sym, ap, subst, arith, ◌∙◌, sum_by, nat_lt, bytes_eq, nat_tests, sum_by-append, or_right, Held, ContainerId, Resource, is_container, same_container, NodeState, Row, Scene, has_container, ids_on, lives_on, taken_of, is_held, Settings}
 use Rattle.std.proofs.Common.{◌-◌}
 use Rattle.std.specs.Prelude.{option_map}
 use Rattle.rm_types.specs.Order.{Ascend}
@@ -38,8 +38,8 @@ module _ (m : Scene) (node : NodeState) where
     pub once : (id : ContainerId) → times_held taken id ≤ 1
     pub each : Each P taken
 
-  module _ (P : Held → Type 0) (counts : (held one : Held) → as_counted m node held ≡ Some one → P one) where
-    one_more : (taken : List Held) (held one : Held) → as_counted m node held ≡ Some one → IsFree m node taken one → IsTaken P taken → IsTaken P (taken ++ one ∷ [])
+  module _ (settings : Settings) (P : Held → Type 0) (counts : (held one : Held) → as_counted m node held ≡ Some one → P one) where
+    one_more : (taken : List Held) (held one : Held) → as_counted m node held ≡ Some one → IsFree settings m node taken one → IsTaken P taken → IsTaken P (taken ++ one ∷ [])
     one_more taken held one counted free t =
         record {
           fit = λ f part.
@@ -66,8 +66,8 @@ module _ (m : Scene) (node : NodeState) where
             let o : times_held (one ∷ []) id ≡ 0 = rw other refl in
             let h = t.once id in omega (arith, j, o, h)
 
-    pub taken_is : IsTaken P (taken_of m node)
-    taken_is = all_taken m node (IsTaken P) (record { fit = λ f part. omega arith; once = λ id. omega arith; each = tt }) one_more
+    pub taken_is : IsTaken P (taken_of settings m node)
+    taken_is = all_taken settings m node (IsTaken P) (record { fit = λ f part. omega arith; once = λ id. omega arith; each = tt }) one_more
 
   -- at the first absorption what counts is of a former epoch
   pub former_counts : node.capability ≡ None → (held one : Held) → as_counted m node held ≡ Some one → one.id.epoch < m.life.epoch

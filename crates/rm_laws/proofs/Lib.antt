@@ -4,6 +4,7 @@ pub mod Cleans
 pub mod Counts
 pub mod Endings
 pub mod Ends
+pub mod Done
 pub mod EndsTold
 pub mod Fine
 pub mod Fits
@@ -17,11 +18,13 @@ pub mod Issues
 pub mod Lists
 pub mod Lives
 pub mod Messages
+pub mod Missing
 pub mod NoneStray
 pub mod Pending
 pub mod Phases
 pub mod Recorded
 pub mod Registered
+pub mod Released
 pub mod Rows
 pub mod RowsFit
 pub mod Served
@@ -32,3 +35,5 @@ pub mod Told
 pub mod Views
 pub mod Walks
 pub mod Weights
+pub mod WithoutKeep
+pub mod WithoutRecovery

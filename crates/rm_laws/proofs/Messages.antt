@@ -12,7 +12,7 @@ use Rattle.rm_types.specs.declared.messages.Message.TheVariants.{Client as FromC
 use Rattle.rm_types.specs.declared.replies.Reply.TheVariants as replies
 use Rattle.rm_model.specs.State.{Registration}
 use Rattle.rm_model.specs.ClientReplies.{life_after_client}
-use Rattle.rm_model.specs.MasterReplies.{is_new_to_master, life_after_master, registers, with_master}
+use Rattle.rm_model.specs.MasterReplies.{is_new_to_master, life_after_master, registers, takes_over, with_master}
 use Rattle.rm_model.specs.NodeReplies.{is_later_turn, is_new_to_node, life_after_node}
 
 -- what holds of two, of whatever a test gives of them
@@ -30,8 +30,9 @@ module _ (m : Scene) (P : LifeState → Type 0) (Q : Message → Reply → Type 
     pub joins : (user : List ℕ) (id : AppId) (submission : Submission) → Q (FromClient user (AskSubmit id submission)) replies.Submitted → is_known m id ≡ false
         → P (record m.life { apps = record m.life.apps { submitted = m.life.apps.submitted ++ record { id = id; submission = submission } ∷ [] } })
     pub wishes : (id : AppId) → P (record m.life { apps = record m.life.apps { wishes = m.life.apps.wishes ++ id ∷ [] } })
-    -- a master registers, its allocation is served, it finishes
-    pub registered : (attempt : AttemptId) → Q (FromMaster attempt Register) replies.MasterRegistered → P (registers m attempt)
+    -- a master registers, and may have containers from earlier attempts, its allocation is served, it finishes
+    pub registered : (attempt : AttemptId) → Q (FromMaster attempt Register) replies.MasterRegistered → P (registers m attempt replies.MasterRegistered)
+    pub takes_over : (attempt : AttemptId) (kept : List Grant) → Q (FromMaster attempt Register) (replies.Took kept) → P (takes_over m attempt kept)
     pub allocated : (attempt : AttemptId) (id : ℕ) (asks : List Ask) (release : List ContainerId) (next : ℕ) (grants : List Grant) (ended : List Closing)
         → Q (FromMaster attempt (Allocate id asks release)) (replies.Allocated next grants ended) → P (allocates m attempt asks release (replies.Allocated next grants ended))
     pub finishes : (attempt : AttemptId) (text : List ℕ) → P (record m.life { masters = with_master (λ one. record one { finishing = Some text }) attempt m.life.masters })
@@ -59,6 +60,7 @@ module _ (m : Scene) (P : LifeState → Type 0) (Q : Message → Reply → Type 
 
     master : (attempt : AttemptId) (ask : MasterAsk) (reply : Reply) → Q (FromMaster attempt ask) reply → P (life_after_master m attempt ask reply)
     master attempt Register replies.MasterRegistered q = c.registered attempt q
+    master attempt Register (replies.Took kept) q = c.takes_over attempt kept q
     master attempt Register reply q = c.nothing
     master attempt (Allocate id asks release) (replies.Allocated next grants ended) q = either P (is_new_to_master m attempt id) _ _ (c.allocated attempt id asks release next grants ended q) c.nothing
     master attempt (Allocate id asks release) reply q = c.nothing

@@ -8,8 +8,9 @@ use Rattle.rm_types.specs.declared.messages.Message.TheVariants.{Client as FromC
 use Rattle.rm_types.specs.declared.replies.Reply.TheVariants as replies
 use Rattle.rm_types.specs.Records.{stray}
 use Rattle.rm_model.specs.State.{MasterState}
-use Rattle.rm_model.specs.Attempts.{attempt_end_issued, attempt_is_kept, finishing_text, has_failed, is_current, is_live, master_of}
-use Rattle.rm_model.specs.MasterReplies.{allocate_reply, allocation_reply, untold_rows}
+use Rattle.rm_model.specs.Facts.{app_goes_on, keeps, kept_record}
+use Rattle.rm_model.specs.Attempts.{attempt_end, attempt_end_issued, attempt_is_kept, finishing_text, has_failed, is_live, is_masters, is_wanted, master_of}
+use Rattle.rm_model.specs.MasterReplies.{allocate_reply, allocation_reply, late_rows, new_grants, row_kept, takes_over}
 use Rattle.rm_model.specs.Containers.{released_by}
 use Rattle.rm_model.specs.Passing.{without_granted}
 use Rattle.rm_model.specs.Rules.{MayFollow, MayQueue}
@@ -23,7 +24,7 @@ use Rattle.rm_laws.proofs.Ids.{steps as id_steps}
 use Rattle.rm_laws.proofs.Told.{AreKnown, any-filter, any-map, pushed, stays_there, either_true, step as known_step}
 use Rattle.rm_laws.proofs.Views.{Fitting, fitting, not_stray, fitting-front}
 use Rattle.rm_laws.proofs.Fine.{Fine}
-use Rattle.rm_laws.proofs.Pending.{Pend, Pending, asks_for, lives_for, current_pends, fewer, granted_all, granted_rows, kept_pends, more, pass_asks, with_asks_of}
+use Rattle.rm_laws.proofs.Pending.{Pend, Pending, asks_for, lives_for, fewer, granted_all, granted_rows, kept_pends, more, pass_asks, with_asks_of}
 use Rattle.rm_laws.proofs.Stray.{Sane, SaneIn, Whole, app_waits, asks_less, by_submitted, fine, issued_fit, kept_sane, other_waits, stays_sane}
 use Rattle.rm_laws.proofs.Walks.{walk}
 
@@ -44,6 +45,9 @@ pub record Near (m : Scene) (new : LifeState) : Type 0 where
   pub submitted : new.apps.submitted ≡ m.life.apps.submitted
   pub asks : (t : AttemptId) → asks_for new.asks t ≡ true → (asks_for m.life.asks t ≡ true) ⊎ Pend (record_of m.records.apps t.app) m.life.apps.retired t
   pub rows : (t : AttemptId) → lives_for new.book t ≡ true → (lives_for m.life.book t ≡ true) ⊎ Pend (record_of m.records.apps t.app) m.life.apps.retired t
+
+row_kept_id : (told : List ContainerId) (row : Row) → (row_kept told row).id ≡ row.id
+row_kept_id told row = refl
 
 beaten_id : (on : List ℕ) (running launched : List ContainerId) (row : Row) → (row_beaten on running launched row).id ≡ row.id
 beaten_id on running launched row =
@@ -83,6 +87,9 @@ module _ (settings : Settings) (m : Scene) (fine_all : (id : AppId) → Fine (re
         joins = joins;
         wishes = λ id. of _ (parts refl refl refl refl);
         registered = λ attempt is. of _ (parts refl refl refl refl);
+        takes_over = λ attempt kept is.
+            of (takes_over m attempt kept)
+            (record { retired = refl; submitted = refl; asks = λ t h. inl h; rows = λ t h. inl (row_map (row_kept (map (λ one. one.id) kept)) (λ row. row_kept_id (map (λ one. one.id) kept) row) t h) });
         allocated = λ attempt id asked release next grants ended is.
             let r = registered_by settings m attempt id asked m.life.is_open (master_of m attempt) (replies.Allocated next grants ended) (λ x e h. let y : replies.Allocated next grants ended ≡ replies.Resync = h ∙ e in cc) (λ h. cc) is in
             of (allocates m attempt asked release (replies.Allocated next grants ended))
@@ -90,7 +97,7 @@ module _ (settings : Settings) (m : Scene) (fine_all : (id : AppId) → Fine (re
               retired = refl;
               submitted = refl;
               asks = λ t h. own_asks attempt t r (with_asks_of attempt t asked m.life.asks h);
-              rows = λ t h. inl (row_map (row_allocated (map (λ row. row.id) (untold_rows m attempt)) (released_by m (record { attempt = attempt; list = release }))) (λ row. refl) t h);
+              rows = λ t h. inl (row_map (row_allocated (map (λ row. row.id) (new_grants m attempt)) (map (λ row. row.id) (late_rows m attempt)) (released_by m (record { attempt = attempt; list = release }))) (λ row. refl) t h);
             });
         finishes = λ attempt text. of _ (parts refl refl refl refl);
         node_registered = λ name registration reply. of _ (parts refl refl refl refl);
@@ -102,18 +109,23 @@ module _ (settings : Settings) (m : Scene) (fine_all : (id : AppId) → Fine (re
         master_expires = λ attempt. of _ (parts refl refl refl refl);
       }
 
-  -- what an absorption takes is of current attempts
-  taken_current : (node : NodeState) → Each (λ held. is_current m held.id.attempt ≡ true) (taken_of m node)
-  taken_current node = each_taken m node (λ held. is_current m held.id.attempt ≡ true) (λ taken one free. free.current)
+  wanted_kept : (id : ContainerId) → is_wanted m id ≡ true → attempt_is_kept m id.attempt ≡ true
+  wanted_kept id h =
+      let a = and_parts (app_goes_on (kept_record m id.attempt.app)) (attempt_is_kept m id.attempt && (is_none (attempt_end m id.attempt) || (keeps (kept_record m id.attempt.app) && not (is_masters m id)))) h in
+      (and_parts (attempt_is_kept m id.attempt) (is_none (attempt_end m id.attempt) || (keeps (kept_record m id.attempt.app) && not (is_masters m id))) a.1).0
 
-  absorbed_pend : (name : List ℕ) (t : AttemptId) (taken : List Held) → Each (λ held. is_current m held.id.attempt ≡ true) taken → lives_for (map (row_absorbed name) taken) t ≡ true → Pend (record_of m.records.apps t.app) m.life.apps.retired t
+  -- what an absorption takes is of attempts that are kept
+  taken_kept : (node : NodeState) → Each (λ held. attempt_is_kept m held.id.attempt ≡ true) (taken_of settings m node)
+  taken_kept node = each_taken settings m node (λ held. attempt_is_kept m held.id.attempt ≡ true) (λ taken one free. wanted_kept one.id free.wanted)
+
+  absorbed_pend : (name : List ℕ) (t : AttemptId) (taken : List Held) → Each (λ held. attempt_is_kept m held.id.attempt ≡ true) taken → lives_for (map (row_absorbed name) taken) t ≡ true → Pend (record_of m.records.apps t.app) m.life.apps.retired t
   absorbed_pend name t [] e h = cc
   absorbed_pend name t (held ∷ taken) e h = go (is_attempt held.id.attempt t) refl h (absorbed_pend name t taken e.1)
     where
       go : (b : Bool) → is_attempt held.id.attempt t ≡ b → (b || lives_for (map (row_absorbed name) taken) t) ≡ true → (lives_for (map (row_absorbed name) taken) t ≡ true → Pend (record_of m.records.apps t.app) m.life.apps.retired t) → Pend (record_of m.records.apps t.app) m.life.apps.retired t
       go true same x rest =
           subst (λ (i : AttemptId). Pend (record_of m.records.apps i.app) m.life.apps.retired i) (same_attempt held.id.attempt t same)
-          (current_pends (record_of m.records.apps held.id.attempt.app) m.life.apps.retired held.id.attempt (fine_all held.id.attempt.app) e.0)
+          (kept_pends (record_of m.records.apps held.id.attempt.app) m.life.apps.retired held.id.attempt (fine_all held.id.attempt.app) e.0)
       go false other x rest = rest x
 
 near_sane : (kept awaiting : List Op) (blew : Bool) (life new : LifeState) → Sane kept awaiting life → Near (scene (state kept awaiting blew (Some life)) life) new → Sane kept awaiting new
@@ -238,7 +250,7 @@ module _ (settings : Settings) (kept awaiting : List Op) (blew : Bool) (life : L
       go t (inl x) = inl x
       go t (inr x) = inr (w.sane.pending t (or_left (asks_for life.asks t) (lives_for life.book t) (granted_rows life.asks t grants each x)))
 
-  absorbed : (name : List ℕ) (taken : List Held) (list : List ContainerId) (node : Option NodeState) → IsSomeAnd node (λ n. MayAbsorb (scene (state kept awaiting blew (Some life)) life) n taken list) → (new : LifeState)
+  absorbed : (name : List ℕ) (taken : List Held) (list : List ContainerId) (node : Option NodeState) → IsSomeAnd node (λ n. MayAbsorb settings (scene (state kept awaiting blew (Some life)) life) n taken list) → (new : LifeState)
       → new.apps.retired ≡ life.apps.retired → new.apps.submitted ≡ life.apps.submitted → new.asks ≡ life.asks → new.book ≡ book_taken name taken (filter (λ row. not (has_container list row.id)) life.book) → Sane kept awaiting new
   absorbed name taken list None may new r s a b = absurd may
   absorbed name taken list (Some n) may new r s a b =
@@ -267,8 +279,8 @@ module _ (settings : Settings) (kept awaiting : List Op) (blew : Bool) (life : L
           (sym (any-map (λ (row : Row). is_attempt row.id.attempt t) (row_taken taken) (λ row. ap (λ (i : ContainerId). is_attempt i.attempt t) (ids row (is_held taken row.id))) (filter (λ row. not (has_container list row.id)) life.book)) ∙ x))
       go t (inr x) =
           let s = scene (state kept awaiting blew (Some life)) life in
-          let current = subst (Each (λ (held : Held). is_current s held.id.attempt ≡ true)) (sym may.takes) (taken_current settings s here n) in
-          inr (absorbed_pend settings s here name t (filter (λ held. not (is_living (filter (λ row. not (has_container list row.id)) life.book) held.id)) taken) (each-filter (λ (held : Held). is_current s held.id.attempt ≡ true) (λ held. not (is_living (filter (λ row. not (has_container list row.id)) life.book) held.id)) taken current) x)
+          let are_kept = subst (Each (λ (held : Held). attempt_is_kept s held.id.attempt ≡ true)) (sym may.takes) (taken_kept settings s here n) in
+          inr (absorbed_pend settings s here name t (filter (λ held. not (is_living (filter (λ row. not (has_container list row.id)) life.book) held.id)) taken) (each-filter (λ (held : Held). attempt_is_kept s held.id.attempt ≡ true) (λ held. not (is_living (filter (λ row. not (has_container list row.id)) life.book) held.id)) taken are_kept) x)
 
   first_kept : (op : Op) → slice_get awaiting 0 ≡ Some op → Fitting no_records ((kept ++ op ∷ []) ++ drop 1 awaiting) × Sane (kept ++ op ∷ []) (drop 1 awaiting) (record (life_keeps life op) { handed = false })
   first_kept op first = go awaiting w.fit w.sane first
@@ -320,7 +332,7 @@ parts_after settings kept awaiting blew None (Opened landed epoch stamp) w may =
 parts_after settings kept awaiting blew None _ w may = absurd may
 parts_after settings kept awaiting blew (Some life) e w may = in_life settings kept awaiting blew life w e may
 
-whole_after : (settings : Settings) (kept awaiting : List Op) (blew : Bool) (life : Option LifeState) (e : Entry) → Whole (state kept awaiting blew life) → Allowed settings (state kept awaiting blew life) e → Whole (after (state kept awaiting blew life) e)
+pub whole_after : (settings : Settings) (kept awaiting : List Op) (blew : Bool) (life : Option LifeState) (e : Entry) → Whole (state kept awaiting blew life) → Allowed settings (state kept awaiting blew life) e → Whole (after (state kept awaiting blew life) e)
 whole_after settings kept awaiting blew life e w may =
     let p = parts_after settings kept awaiting blew life e w may in
     record {
@@ -330,14 +342,17 @@ whole_after settings kept awaiting blew life e w may =
       sane = p.1;
     }
 
--- the law
-pub none_stray : (settings : Settings) (opening : List Op) (log : List Entry) → stray opening ≡ None → AllAllowed settings (opening_state opening) log → NoneStray opening log
-none_stray settings opening log none allowed before rest whole =
-    let begins : Whole (opening_state opening) = record {
+pub whole_opening : (opening : List Op) → stray opening ≡ None → Whole (opening_state opening)
+whole_opening opening none =
+    record {
       fit = rw (append-nil opening) (fitting no_records opening none);
       sound = sound_opening opening;
       known = tt;
       sane = tt;
-    } in
-    let w = (walk settings Whole (λ s e w may. whole_after settings s.kept s.awaiting s.blew s.life e w may) opening log before rest begins allowed whole).0 in
+    }
+
+-- the law
+pub none_stray : (settings : Settings) (opening : List Op) (log : List Entry) → stray opening ≡ None → AllAllowed settings (opening_state opening) log → NoneStray opening log
+none_stray settings opening log none allowed before rest whole =
+    let w = (walk settings Whole (λ s e w may. whole_after settings s.kept s.awaiting s.blew s.life e w may) opening log before rest (whole_opening opening none) allowed whole).0 in
     not_stray no_records ((after_all (opening_state opening) before).kept ++ (after_all (opening_state opening) before).awaiting) w.fit

@@ -177,13 +177,6 @@ pub kept_pends : (v : Option AppRecord) (retired : List AppId) (t : AttemptId) �
 kept_pends None retired t fine h = cc
 kept_pends (Some app) retired t fine h = inl (below t.number (length app.attempts) (in_numbers t (length app.attempts) app.attempts fine.numbers h))
 
-pub current_pends : (v : Option AppRecord) (retired : List AppId) (t : AttemptId) → Fine v → is_some_and (λ last. is_attempt last.id t && is_none last.ending) (last_attempt (attempts_in v)) ≡ true → Pend v retired t
-current_pends None retired t fine h = cc
-current_pends (Some app) retired t fine h =
-    let l = last_numbers (length app.attempts) app.attempts (λ last. is_attempt last.id t && is_none last.ending) (λ x. Unit {0}) fine.numbers h in
-    let same = same_attempt l.0.id t (and_parts (is_attempt l.0.id t) (is_none l.0.ending) l.1).0 in
-    inl (below t.number (length app.attempts) (subst (λ (i : AttemptId). nat_le i.number (length app.attempts) ≡ true) same l.2))
-
 -- an operation that fits is kept
 longer : (id : AttemptId) (master : ContainerId) (node : List ℕ) (app : AppRecord) → length (add_attempt id master node app).attempts ≡ length app.attempts + 1
 longer id master node app = length-append app.attempts (record { id = id; master = master; node = node; ending = None } ∷ [])

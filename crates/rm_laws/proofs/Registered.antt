@@ -1,8 +1,11 @@
 -- The attempt of each master that registered is kept, or its application was retired.
-use Rattle.rm_laws.proofs.Common.{◌≡◌, ◌⊎◌, ℕ, List, [], ◌∷◌, ◌++◌, Bool, true, false, ◌&&◌, not, cond, if◌then◌else◌, Option, None, Some, is_some, map, find, refl, sym, ap, subst, ◌∙◌, inl, inr, IsSomeAnd, fold_push, and_parts, Entry, Opened, Issued, Kept, Served, Down, AppId, AttemptId, How, Op, Epoch, App, Attempt, AttemptEnd, AppEnd, Remove, AppRecord, AttemptRecord, Settings, is_app, is_attempt, Records, records, recorded, no_records, record_of, with_end, is_some-find, LifeState, Manager, Scene, scene, opening_state, attempts_in, has_app, is_remove_op, has_registered, reply_to, Allowed, AllowedIn, after, after_all, life_issues, life_keeps, AllAllowed}
+use Rattle.rm_laws.proofs.Common.{◌≡◌, ◌⊎◌, ℕ, List, [], ◌∷◌, ◌++◌, Bool, true, false, not, cond, if◌then◌else◌, Option, None, Some, is_some, map, find, refl, sym, ap, subst, ◌∙◌, inl, inr, IsSomeAnd, fold_push, and_parts, Entry, Opened, Issued, Kept, Served, Down, AppId, AttemptId, How, Op, Epoch, App, Attempt, AttemptEnd, AppEnd, Remove, AppRecord, AttemptRecord, Settings, is_app, is_attempt, Records, records, recorded, no_records, record_of, with_end, is_some-find, LifeState, Manager, Scene, scene, opening_state, attempts_in, has_app, is_remove_op, has_registered, reply_to, Allowed, AllowedIn, after, after_all, life_issues, life_keeps, AllAllowed}
 use Rattle.rm_types.specs.declared.replies.Reply.TheVariants as replies
 use Rattle.rm_model.specs.State.{MasterState, Masters}
-use Rattle.rm_model.specs.Attempts.{attempt_end_issued, attempt_is_kept}
+use Rattle.rm_model.specs.Attempts.{attempt_end_issued, attempt_is_kept, is_live}
+use Rattle.rm_model.specs.MasterReplies.{registered_reply, registers}
+use Rattle.rm_types.specs.declared.replies.Reply.{Reply}
+use Rattle.rm_laws.specs.FirstAttempts.{attempt_stands}
 use Rattle.rm_laws.specs.Laws.{AllKeptOrRetired, RegisteredAreKept}
 use Rattle.rm_laws.proofs.Lists.{Each, each_all, each-append, each-map}
 use Rattle.rm_laws.proofs.Messages.{Changes, served}
@@ -11,18 +14,15 @@ use Rattle.rm_laws.proofs.Recorded.{IsLasting, recorded_says}
 use Rattle.rm_laws.proofs.Told.{last_there, stays_there}
 use Rattle.rm_laws.proofs.Walks.{walk}
 
--- an attempt stands in a record, and in the records
+-- an attempt stands in a record
 abbrev pub stands_in : AttemptId → AppRecord → Bool
 stands_in id app = is_some (find (λ (one : AttemptRecord). is_attempt one.id id) app.attempts)
 
-abbrev pub stands : List AppRecord → AttemptId → Bool
-stands apps id = is_some (find (λ (one : AttemptRecord). is_attempt one.id id) (attempts_in (record_of apps id.app)))
-
-to_record : (id : AttemptId) (app : Option AppRecord) → is_some (find (λ (one : AttemptRecord). is_attempt one.id id) (attempts_in app)) ≡ true → IsSomeAnd app (λ one. stands_in id one ≡ true)
+pub to_record : (id : AttemptId) (app : Option AppRecord) → is_some (find (λ (one : AttemptRecord). is_attempt one.id id) (attempts_in app)) ≡ true → IsSomeAnd app (λ one. stands_in id one ≡ true)
 to_record id None h = cc
 to_record id (Some app) h = h
 
-from_record : (id : AttemptId) (app : Option AppRecord) → IsSomeAnd app (λ one. stands_in id one ≡ true) → is_some (find (λ (one : AttemptRecord). is_attempt one.id id) (attempts_in app)) ≡ true
+pub from_record : (id : AttemptId) (app : Option AppRecord) → IsSomeAnd app (λ one. stands_in id one ≡ true) → is_some (find (λ (one : AttemptRecord). is_attempt one.id id) (attempts_in app)) ≡ true
 from_record id None h = absurd h
 from_record id (Some app) h = h
 
@@ -39,7 +39,7 @@ ended_stands id one how text (x ∷ xs) h = go (is_attempt x.id one) (is_attempt
     go false true e h more = rw e refl
     go false false e h more = rw e (more h)
 
-attempt_lasts : (id : AttemptId) → IsLasting (λ app. stands_in id app ≡ true)
+pub attempt_lasts : (id : AttemptId) → IsLasting (λ app. stands_in id app ≡ true)
 attempt_lasts id =
     record {
       attempt = λ app new h. is_some-find (λ (one : AttemptRecord). is_attempt one.id id) (app.attempts ++ new ∷ [])
@@ -50,7 +50,7 @@ attempt_lasts id =
 
 -- an attempt is kept, or its application was retired
 abbrev pub IsHeld : List AppRecord → List AppId → AttemptId → Type 0
-IsHeld apps retired id = (stands apps id ≡ true) ⊎ (has_app retired id.app ≡ true)
+IsHeld apps retired id = (attempt_stands apps id ≡ true) ⊎ (has_app retired id.app ≡ true)
 
 -- after an operation is kept
 kept_held : (r : Records) (life : LifeState) (op : Op) (id : AttemptId) → IsHeld r.apps life.apps.retired id → IsHeld (recorded r op).apps (life_keeps life op).apps.retired id
@@ -97,11 +97,16 @@ module _ (m : Scene) where
   abbrev pub MastersAreHeld : LifeState → Type 0
   MastersAreHeld life = AllHeld m.records life
 
-  registers_kept : (attempt : AttemptId) (b live registered : Bool)
-      → replies.MasterRegistered ≡ (if b then (if not live then replies.Gone else (if registered then replies.Already else replies.MasterRegistered)) else replies.NotOpen) → live ≡ true
-  registers_kept attempt false live registered is = cc
-  registers_kept attempt true true registered is = refl
-  registers_kept attempt true false registered is = cc
+  registers_live : (reply told : Reply) (b live registered : Bool) → (reply ≡ replies.Gone → ⊥) → (reply ≡ replies.NotOpen → ⊥)
+      → reply ≡ (if b then (if not live then replies.Gone else (if registered then replies.Already else told)) else replies.NotOpen) → live ≡ true
+  registers_live reply told false live registered not_gone opened is = absurd (opened is)
+  registers_live reply told true true registered not_gone opened is = refl
+  registers_live reply told true false registered not_gone opened is = absurd (not_gone is)
+
+  registers_held : MastersAreHeld m.life → (attempt : AttemptId) (reply : Reply) → is_live m attempt ≡ true → MastersAreHeld (registers m attempt reply)
+  registers_held k attempt reply live =
+      each-append (λ master. IsHeld m.records.apps m.life.apps.retired master.attempt) m.life.masters.registered _ k
+      (inl (and_parts (attempt_is_kept m attempt) (not (attempt_end_issued m attempt)) live).0, tt)
 
   answered : (settings : Settings) → MastersAreHeld m.life → Changes m MastersAreHeld (λ message reply. reply ≡ reply_to settings m message)
   answered settings k =
@@ -111,9 +116,11 @@ module _ (m : Scene) where
         joins = λ user id submission is new. k;
         wishes = λ id. k;
         registered = λ attempt is.
-            let live = registers_kept attempt m.life.is_open (attempt_is_kept m attempt && not (attempt_end_issued m attempt)) (has_registered m attempt) is in
-            each-append (λ master. IsHeld m.records.apps m.life.apps.retired master.attempt) m.life.masters.registered _ k
-            (inl (and_parts (attempt_is_kept m attempt) (not (attempt_end_issued m attempt)) live).0, tt);
+            registers_held k attempt replies.MasterRegistered
+            (registers_live replies.MasterRegistered (registered_reply m attempt) m.life.is_open (is_live m attempt) (has_registered m attempt) (λ h. cc) (λ h. cc) is);
+        takes_over = λ attempt kept is.
+            registers_held k attempt (replies.Took kept)
+            (registers_live (replies.Took kept) (registered_reply m attempt) m.life.is_open (is_live m attempt) (has_registered m attempt) (λ h. cc) (λ h. cc) is);
         allocated = λ attempt id asks release next grants ended is. each_changed (IsHeld m.records.apps m.life.apps.retired) _ (λ one. refl) attempt m.life.masters.registered k;
         finishes = λ attempt text. each_changed (IsHeld m.records.apps m.life.apps.retired) _ (λ one. refl) attempt m.life.masters.registered k;
         node_registered = λ name registration reply. k;

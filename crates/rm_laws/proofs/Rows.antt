@@ -1,6 +1,7 @@
 -- Each entry changes the rows of the book as the log says.
 use Rattle.rm_laws.proofs.Common.{◌≡◌, ℕ, List, [], ◌∷◌, ◌++◌, Bool, true, false, ◌&&◌, not, Option, None, Some, map, filter, fold, refl, sym, ap, subst, ◌∙◌, IsSomeAnd, bytes_eq, list_any-append, Grant, Held, Entry, Opened, Issued, Kept, Served, Absorbed, Pass, Ended, ContainerId, Op, Epoch, App, Attempt, AttemptEnd, AppEnd, Remove, Settings, same_text, LifeState, Manager, NodeState, Row, Scene, scene, opening_state, has_container, is_living, lives_elsewhere, lives_on, is_held, judged_node, row_allocated, row_beaten, row_granted, Allowed, AllowedIn, MayAbsorb, MayPass, after, after_all, life_issues, life_keeps, AllAllowed}
 use Rattle.rm_laws.specs.Laws.{lives_on_node, stands_after, stands_by}
+use Rattle.rm_model.specs.MasterReplies.{row_kept}
 use Rattle.rm_laws.proofs.Lists.{Each, each-map}
 use Rattle.rm_laws.proofs.Messages.{Any, Changes, either, served}
 use Rattle.rm_laws.proofs.Phases.{state}
@@ -19,6 +20,9 @@ module _ (name : List ℕ) (id : ContainerId) where
       (either (λ (x : Row). (x.id ≡ row.id) × (x.node ≡ row.node)) (has_container running row.id) _ _ (refl, refl)
       (either (λ (x : Row). (x.id ≡ row.id) × (x.node ≡ row.node)) _ _ _ (refl, refl) (refl, refl)))
 
+  pub row_kept_stays : (told : List ContainerId) (row : Row) → ((row_kept told row).id ≡ row.id) × ((row_kept told row).node ≡ row.node)
+  row_kept_stays told row = (refl, refl)
+
   answered : (m : Scene) → Changes m (Alike m.life) Any
   answered m =
       record {
@@ -27,7 +31,8 @@ module _ (name : List ℕ) (id : ContainerId) where
         joins = λ user one submission any new. refl;
         wishes = λ one. refl;
         registered = λ attempt any. refl;
-        allocated = λ attempt ask asks release next grants ended any. lives-map (row_allocated _ _) (λ row. (refl, refl)) m.life.book name id;
+        takes_over = λ attempt kept any. lives-map (row_kept (map (λ one. one.id) kept)) (λ row. row_kept_stays (map (λ one. one.id) kept) row) m.life.book name id;
+        allocated = λ attempt ask asks release next grants ended any. lives-map (row_allocated _ _ _) (λ row. (refl, refl)) m.life.book name id;
         finishes = λ attempt text. refl;
         node_registered = λ node registration reply. refl;
         beaten = λ node running done launch reply. lives-map (row_beaten node _ launch) (λ row. beaten_stays node _ launch row) m.life.book name id;
@@ -63,7 +68,7 @@ module _ (name : List ℕ) (id : ContainerId) where
     and_comm false false = refl
 
     absorbed_rows : (on : List ℕ) (taken : List Held) (ended : List ContainerId) (node : Option NodeState) → judged_node life.nodes on ≡ node
-        → IsSomeAnd node (λ n. MayAbsorb (scene (state kept awaiting blew (Some life)) life) n taken ended) → Says (Absorbed on taken ended)
+        → IsSomeAnd node (λ n. MayAbsorb settings (scene (state kept awaiting blew (Some life)) life) n taken ended) → Says (Absorbed on taken ended)
     absorbed_rows on taken ended None e may = absurd may
     absorbed_rows on taken ended (Some n) e may =
         lives-taken on name id taken (filter (λ row. not (has_container ended row.id)) life.book)
@@ -75,7 +80,7 @@ module _ (name : List ℕ) (id : ContainerId) where
         home : is_held taken id ≡ true → bytes_eq on name ≡ true → is_living life.book id ≡ true → lives_on life.book name id ≡ true
         home held here living =
             let at : n.name ≡ name = found life.nodes on n e ∙ same_text on name here in
-            let all = subst (λ (list : List Held). Each (λ held. lives_elsewhere life.book n.name held.id ≡ false) list) (sym may.takes) (taken_home (scene (state kept awaiting blew (Some life)) life) n) in
+            let all = subst (λ (list : List Held). Each (λ held. lives_elsewhere life.book n.name held.id ≡ false) list) (sym may.takes) (taken_home settings (scene (state kept awaiting blew (Some life)) life) n) in
             let out = each_held (λ x. lives_elsewhere life.book n.name x ≡ false) id taken all held in
             subst (λ (x : List ℕ). lives_on life.book x id ≡ true) at (lives_home life.book n.name id out living)
 

@@ -31,7 +31,7 @@ node_own change names name (one ∷ nodes) node here = go (bytes_eq one.name nam
         ap (λ (b : Bool). cond b (Some (change one)) (judged_node (with_judged_node change name nodes) name)) (ap (λ (n : List ℕ). bytes_eq n name) (names one) ∙ e) ∙ ap (λ (n : NodeState). Some (change n)) same
     go false e h more = rw e (more h)
 
-node_all : (g : NodeState → NodeState) → ((node : NodeState) → (g node).name ≡ node.name) → (name : List ℕ) (nodes : List NodeState) (node : NodeState) → judged_node nodes name ≡ Some node → judged_node (map g nodes) name ≡ Some (g node)
+pub node_all : (g : NodeState → NodeState) → ((node : NodeState) → (g node).name ≡ node.name) → (name : List ℕ) (nodes : List NodeState) (node : NodeState) → judged_node nodes name ≡ Some node → judged_node (map g nodes) name ≡ Some (g node)
 node_all g names name [] node here = cc
 node_all g names name (one ∷ nodes) node here =
     ap (λ (b : Bool). cond b (Some (g one)) (judged_node (map g nodes) name)) (ap (λ (n : List ℕ). bytes_eq n name) (names one)) ∙ go (bytes_eq one.name name) here (node_all g names name nodes node)
@@ -120,7 +120,7 @@ each_entered P q on id (held ∷ taken) e h = go (q held) (is_container held.id 
     go true false same h more = more (rw same at h)
     go false b same h more = more h
 
-module _ (m : Scene) (name : List ℕ) (node : NodeState) (here : judged_node m.life.nodes name ≡ Some node) (named : node.name ≡ name) (w : FitLife m.life) (taken : List Held) (ended : List ContainerId) (may : MayAbsorb m node taken ended) where
+module _ (settings : Settings) (m : Scene) (name : List ℕ) (node : NodeState) (here : judged_node m.life.nodes name ≡ Some node) (named : node.name ≡ name) (w : FitLife m.life) (taken : List Held) (ended : List ContainerId) (may : MayAbsorb settings m node taken ended) where
   own_offer : capability_of (with_judged_node absorbed name (map (without_launches ended) m.life.nodes)) name ≡ Some node.last.capability
   own_offer =
       ap (λ (o : Option NodeState). option_and_then (λ (n : NodeState). n.capability) o)
@@ -163,13 +163,13 @@ record Leaves (m : Scene) (name : List ℕ) (node : NodeState) (taken : List Hel
   former : (id : ContainerId) → is_living (map (row_absorbed name) (entered m taken ended)) id ≡ true → id.epoch < m.life.epoch
   once : (id : ContainerId) → times_held taken id ≤ 1
 
-module _ (m : Scene) (name : List ℕ) (node : NodeState) (here : judged_node m.life.nodes name ≡ Some node) (named : node.name ≡ name) (w : FitLife m.life) (taken : List Held) (ended : List ContainerId) (may : MayAbsorb m node taken ended) where
+module _ (settings : Settings) (m : Scene) (name : List ℕ) (node : NodeState) (here : judged_node m.life.nodes name ≡ Some node) (named : node.name ≡ name) (w : FitLife m.life) (taken : List Held) (ended : List ContainerId) (may : MayAbsorb settings m node taken ended) where
   is_offered : capability_of m.life.nodes name ≡ node.capability
   is_offered = ap (λ (o : Option NodeState). option_and_then (λ (n : NodeState). n.capability) o) here
 
   leaves : (o : Option Resource) → node.capability ≡ o → Leaves m name node taken ended
   leaves None none =
-      let t : IsTaken m node (λ held. held.id.epoch < m.life.epoch) taken = subst (IsTaken m node (λ held. held.id.epoch < m.life.epoch)) (sym may.takes) (taken_is m node (λ held. held.id.epoch < m.life.epoch) (former_counts m node none)) in
+      let t : IsTaken m node (λ held. held.id.epoch < m.life.epoch) taken = subst (IsTaken m node (λ held. held.id.epoch < m.life.epoch)) (sym may.takes) (taken_is m node settings (λ held. held.id.epoch < m.life.epoch) (former_counts m node none)) in
       record {
         fit = λ f part.
             let z = no_weight f name m.life.book (w.bare name (is_offered ∙ none)) in
@@ -180,7 +180,7 @@ module _ (m : Scene) (name : List ℕ) (node : NodeState) (here : judged_node m.
         once = t.once;
       }
   leaves (Some capability) some =
-      let t : IsTaken m node (Booked m node) taken = subst (IsTaken m node (Booked m node)) (sym may.takes) (taken_is m node (Booked m node) (booked_counts m node capability some)) in
+      let t : IsTaken m node (Booked m node) taken = subst (IsTaken m node (Booked m node)) (sym may.takes) (taken_is m node settings (Booked m node) (booked_counts m node capability some)) in
       let living : Each (λ (held : Held). is_living (filter (λ row. not (has_container ended row.id)) m.life.book) held.id ≡ true) taken =
       each_both (Booked m node) (λ held. is_held taken held.id ≡ true) (λ held. is_living (filter (λ row. not (has_container ended row.id)) m.life.book) held.id ≡ true) (λ held b h. still held b h) taken t.each (members taken taken (λ id h. h)) in
       let none = all_living (filter (λ row. not (has_container ended row.id)) m.life.book) taken living in
@@ -253,11 +253,11 @@ module _ (m : Scene) (name : List ℕ) (node : NodeState) (here : judged_node m.
       bare_by : (at : List ℕ) (b : Bool) → bytes_eq name at ≡ b → capability_of (with_judged_node absorbed name (map (without_launches ended) m.life.nodes)) at ≡ None → stands_on (book_taken name taken (filter (λ row. not (has_container ended row.id)) m.life.book)) at ≡ false
       bare_by at true is none =
           let same : name ≡ at = same_text name at is in
-          let own = own_offer m name node here named w taken ended may in
+          let own = own_offer settings m name node here named w taken ended may in
           absurd (let x : Some node.last.capability ≡ None = sym own ∙ ap (λ (n : List ℕ). capability_of (with_judged_node absorbed name (map (without_launches ended) m.life.nodes)) n) same ∙ none in cc)
       bare_by at false is none =
           list_any-append (λ (row : Row). bytes_eq row.node at) (map (row_taken taken) (filter (λ row. not (has_container ended row.id)) m.life.book)) (map (row_absorbed name) (entered m taken ended))
-          ∙ rw (left_stands at (w.bare at (sym (other_offer m name node here named w taken ended may at is) ∙ none)), absorbed_stands name at (entered m taken ended) is) refl
+          ∙ rw (left_stands at (w.bare at (sym (other_offer settings m name node here named w taken ended may at is) ∙ none)), absorbed_stands name at (entered m taken ended) is) refl
 
       sum_join : (f : Resource → ℕ) (at : List ℕ) → weight f at (book_taken name taken (filter (λ row. not (has_container ended row.id)) m.life.book)) ≡ weight f at (filter (λ row. not (has_container ended row.id)) m.life.book) + weight f at (map (row_absorbed name) (entered m taken ended))
       sum_join f at =
@@ -269,7 +269,7 @@ module _ (m : Scene) (name : List ℕ) (node : NodeState) (here : judged_node m.
           → weight f at (book_taken name taken (filter (λ row. not (has_container ended row.id)) m.life.book)) ≤ f capability
       held_by f part at capability true is some =
           let same : name ≡ at = same_text name at is in
-          let own = own_offer m name node here named w taken ended may in
+          let own = own_offer settings m name node here named w taken ended may in
           let e : Some node.last.capability ≡ Some capability = sym own ∙ ap (λ (n : List ℕ). capability_of (with_judged_node absorbed name (map (without_launches ended) m.life.nodes)) n) same ∙ some in
           let c : f node.last.capability ≡ f capability = ap f (the_same node.last.capability capability e) in
           let j = sum_join f at in
@@ -284,7 +284,7 @@ module _ (m : Scene) (name : List ℕ) (node : NodeState) (here : judged_node m.
           let j = sum_join f at in
           let a = absorbed_weight f name at false is (entered m taken ended) in
           let l = weight-filter f at (λ row. not (has_container ended row.id)) m.life.book in
-          let h = w.held f part at capability (sym (other_offer m name node here named w taken ended may at is) ∙ some) in
+          let h = w.held f part at capability (sym (other_offer settings m name node here named w taken ended may at is) ∙ some) in
           omega (arith, j, a, l, h)
 
       fresh_by : (id : ContainerId) → (is_living (map (row_taken taken) (filter (λ row. not (has_container ended row.id)) m.life.book)) id ≡ true) ⊎ (is_living (map (row_absorbed name) (entered m taken ended)) id ≡ true)
@@ -324,12 +324,12 @@ module _ (settings : Settings) (kept awaiting : List Op) (blew : Bool) (life : L
   passed_fits name grants None e may = absurd may
   passed_fits name grants (Some n) e may = pass_fits settings (scene (state kept awaiting blew (Some life)) life) name n e (found life.nodes name n e) w grants may
 
-  absorbed_fits : (name : List ℕ) (taken : List Held) (ended : List ContainerId) (node : Option NodeState) → judged_node life.nodes name ≡ node → IsSomeAnd node (λ n. MayAbsorb (scene (state kept awaiting blew (Some life)) life) n taken ended)
+  absorbed_fits : (name : List ℕ) (taken : List Held) (ended : List ContainerId) (node : Option NodeState) → judged_node life.nodes name ≡ node → IsSomeAnd node (λ n. MayAbsorb settings (scene (state kept awaiting blew (Some life)) life) n taken ended)
       → FitIn (after (state kept awaiting blew (Some life)) (Absorbed name taken ended)).life
   absorbed_fits name taken ended None e may = absurd may
   absorbed_fits name taken ended (Some n) e may =
       let m = scene (state kept awaiting blew (Some life)) life in
-      absorb_fits m name n e (found life.nodes name n e) w taken ended may (leaves m name n e (found life.nodes name n e) w taken ended may n.capability refl)
+      absorb_fits settings m name n e (found life.nodes name n e) w taken ended may (leaves settings m name n e (found life.nodes name n e) w taken ended may n.capability refl)
 
   in_life : (e : Entry) → AllowedIn settings (scene (state kept awaiting blew (Some life)) life) e → FitIn (after (state kept awaiting blew (Some life)) e).life
   in_life (Opened landed epoch stamp) may = absurd may

@@ -4,6 +4,7 @@ use Rattle.rm_laws.proofs.Common.{◌≡◌, ℕ, List, refl, AppId, Message, Re
 use Rattle.rm_types.specs.declared.messages.ClientAsk.TheVariants.{New as AskNew}
 use Rattle.rm_types.specs.declared.messages.Message.TheVariants.{Client as FromClient}
 use Rattle.rm_types.specs.declared.replies.Reply.TheVariants as replies
+use Rattle.rm_model.specs.MasterReplies.{takes_over}
 use Rattle.rm_laws.proofs.Messages.{Any, Changes, served}
 
 -- this is left
@@ -51,6 +52,7 @@ module _ (m : Scene) where
         joins = λ user id submission q new. of _ (plain refl refl refl refl refl);
         wishes = λ id. of _ (plain refl refl refl refl refl);
         registered = λ attempt q. of _ (plain refl refl refl refl refl);
+        takes_over = λ attempt kept q. of (takes_over m attempt kept) (plain refl refl refl refl refl);
         allocated = λ attempt id asks release next grants ended q. of (allocates m attempt asks release (replies.Allocated next grants ended)) (plain refl refl refl refl refl);
         finishes = λ attempt text. of _ (plain refl refl refl refl refl);
         node_registered = λ name registration reply. of (tidied (record m.life { nodes = nodes_registered m name registration reply (judged_node m.life.nodes name) })) (plain refl refl refl refl refl);

@@ -225,6 +225,7 @@ module _ (m : Scene) where
         joins = λ user id submission is new. submits settings id submission m.life.is_open is new k;
         wishes = λ id. record { accepted_out = k.accepted_out; kept_out = k.kept_out; held = k.held };
         registered = λ attempt is. k;
+        takes_over = λ attempt kept is. k;
         allocated = λ attempt id asks release next grants ended is. k;
         finishes = λ attempt text. k;
         node_registered = λ name registration reply. k;

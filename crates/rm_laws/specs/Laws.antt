@@ -6,7 +6,7 @@ use Rattle.std.specs.List.{list_any}
 use Rattle.std.specs.Str.{bytes_eq}
 use Rattle.rm_types.specs.declared.containers.Held.{Held}
 use Rattle.rm_types.specs.declared.entries.Entry.{Entry}
-use Rattle.rm_types.specs.declared.entries.Entry.TheVariants.{Opened, Kept, Served, Absorbed, Pass, Ended, Down}
+use Rattle.rm_types.specs.declared.entries.Entry.TheVariants.{Opened, Kept, Served, Absorbed, Pass, Ended, Settled, Down}
 use Rattle.rm_types.specs.declared.ids.AppId.{AppId}
 use Rattle.rm_types.specs.declared.ids.AttemptId.{AttemptId}
 use Rattle.rm_types.specs.declared.ids.ContainerId.{ContainerId}
@@ -20,18 +20,20 @@ use Rattle.rm_types.specs.declared.operations.Op.{Op}
 use Rattle.rm_types.specs.declared.operations.Op.TheVariants.{Epoch}
 use Rattle.rm_types.specs.declared.operations.Submission.{Submission}
 use Rattle.rm_types.specs.declared.replies.Reply.{Reply}
-use Rattle.rm_types.specs.declared.replies.Reply.TheVariants.{New as Gives, Report as Tells, AppEnded, Finished, Beat as TellBeat}
+use Rattle.rm_types.specs.declared.replies.Reply.TheVariants.{New as Gives, Report as Tells, AppEnded, Finished, Allocated, Beat as TellBeat}
 use Rattle.rm_types.specs.declared.replies.Report.{Report}
 use Rattle.rm_types.specs.declared.replies.StateWord.{StateWord}
 use Rattle.rm_types.specs.declared.replies.StateWord.TheVariants as states
 use Rattle.rm_types.specs.declared.resources.Resource.{Resource}
+use Rattle.rm_types.specs.declared.settings.Settings.{Settings}
+use Rattle.rm_types.specs.Ids.{is_attempt, is_container}
 use Rattle.rm_types.specs.Passes.{total_of}
 use Rattle.rm_types.specs.Records.{Records, is_some_and, record_of, records, stray}
 use Rattle.rm_types.specs.Resources.{Fits}
 use Rattle.rm_model.specs.State.{LifeState, Manager, Scene, scene}
-use Rattle.rm_model.specs.Facts.{has_app, has_container, is_remove_op}
-use Rattle.rm_model.specs.Attempts.{attempt_is_kept}
-use Rattle.rm_model.specs.Containers.{lives_on, rows_on}
+use Rattle.rm_model.specs.Facts.{has_app, has_container, is_attempt_end_op, is_remove_op}
+use Rattle.rm_model.specs.Attempts.{attempt_is_kept, has_lost_master, heir, is_wanted}
+use Rattle.rm_model.specs.Containers.{is_astray, is_living, is_missing, lives_elsewhere, lives_on, rows_on}
 use Rattle.rm_model.specs.Nodes.{is_ready, judged_node}
 use Rattle.rm_model.specs.NodeReplies.{is_new_to_node}
 use Rattle.rm_types.specs.Containers.{is_held}
@@ -315,3 +317,98 @@ AllKeptOrRetired s (Some life) = All (λ master. IsKeptOrRetired (scene s life) 
 -- retired in this life.
 abbrev pub RegisteredAreKept : List Op → List Entry → Type 0
 RegisteredAreKept opening log = InEachState (λ s. AllKeptOrRetired s s.life) opening log
+
+-- the pending containers of the life that stands, if one does, are not in its book
+abbrev pub PendingAreOut : Option LifeState → Type 0
+PendingAreOut None = Unit {0}
+PendingAreOut (Some life) = All (λ id. is_living life.book id ≡ false) life.endings.pending
+
+-- Released: where the cluster recovers ended containers, no container that was released while it was missing is in the book, in
+-- every state of the life in which it was released.
+abbrev pub ReleasedStay : Settings → List Op → List Entry → Type 0
+ReleasedStay settings opening log = settings.recover_ended_containers ≡ true → InEachState (λ s. PendingAreOut s.life) opening log
+
+-- by an entry an attempt is over for its life: its end is kept, or the life goes down
+abbrev pub stops_attempt : AttemptId → Entry → Bool
+stops_attempt id (Kept op) = is_attempt_end_op id op
+stops_attempt id Down = true
+stops_attempt id _ = false
+
+-- a master is told of a container's end
+abbrev pub tells_closing : AttemptId → ContainerId → Message → Reply → Bool
+tells_closing attempt id (FromMaster one ask) (Allocated next grants ended) = is_attempt one attempt && list_any (λ closing. is_container closing.id id) ended
+tells_closing attempt id _ _ = false
+
+-- by an entry the master of an attempt is told of a container's end
+abbrev pub tells_end : AttemptId → ContainerId → Entry → Bool
+tells_end attempt id (Served sender message reply) = tells_closing attempt id message reply
+tells_end attempt id _ = false
+
+-- a container that a node names as done counts: it is astray, or in the book on the node; it is wanted; and this attempt is the heir of its
+-- application
+pub record CountsAsDone (settings : Settings) (m : Scene) (name : List ℕ) (id : ContainerId) (attempt : AttemptId) : Type 0 where
+  pub here : (is_astray settings m id || lives_on m.life.book name id) ≡ true
+  pub wanted : is_wanted m id ≡ true
+  pub told : heir m id.attempt.app ≡ Some attempt
+
+-- a new beat that names a container as done which counts, and a later place of its life up to which the heir's end is not kept
+pub record DoneNamed (settings : Settings) (opening : List Op) (log : List Entry) : Type 0 where
+  pub passage : Passage log
+  pub sender : Sender
+  pub name : List ℕ
+  pub id : ℕ
+  pub running : List Held
+  pub done : List ContainerId
+  pub next : ℕ
+  pub launch : List ContainerId
+  pub clean : List ContainerId
+  pub container : ContainerId
+  pub attempt : AttemptId
+  pub beat : passage.entry ≡ Served sender (FromNode name (AskBeat id running done)) (TellBeat next launch clean)
+  pub is_new : is_new_beat (state_before opening passage) (state_before opening passage).life name id ≡ true
+  pub named : has_container done container ≡ true
+  pub counts : IsSomeAnd (state_before opening passage).life (λ life. CountsAsDone settings (scene (state_before opening passage) life) name container attempt)
+  pub lasts : list_any (stops_attempt attempt) passage.after ≡ false
+
+-- what the node said is worked off, in the life that stands if one does
+abbrev pub IsWorkedOff : Option LifeState → List ℕ → Type 0
+IsWorkedOff None name = ⊥
+IsWorkedOff (Some life) name = IsSomeAnd (judged_node life.nodes name) (λ node. node.undone ≡ [])
+
+-- the end of a container that a node named as done is told, unless the container runs elsewhere
+pub data IsEndTold (m : Scene) (name : List ℕ) (id : ContainerId) (attempt : AttemptId) (since : List Entry) : Type 0 where
+  -- it is in the book on another node, which reported it as running
+  elsewhere : lives_elsewhere m.life.book name id ≡ true → IsEndTold m name id attempt since
+  -- its end waits for the attempt's master
+  to_be_told : list_any (λ one. is_attempt one.attempt attempt && is_container one.closing.id id) m.life.endings.outbox ≡ true → IsEndTold m name id attempt since
+  -- the attempt's master was told of its end since
+  was_told : list_any (tells_end attempt id) since ≡ true → IsEndTold m name id attempt since
+
+-- Ends are told: of a container that a new beat named as done and that counted then, in the same life and until the end of its
+-- application's heir is kept: as soon as what the node said is worked off the end is told to the heir or waits for it, or the container was its
+-- attempt's master, which is lost; and where the log settles next, the end is told or waits.
+pub record EndsAreTold (settings : Settings) (opening : List Op) (log : List Entry) : Type 0 where
+  pub worked_off : (d : DoneNamed settings opening log) → IsWorkedOff (state_later opening d.passage).life d.name
+      → IsSomeAnd (state_later opening d.passage).life
+      (λ life. (has_lost_master (scene (state_later opening d.passage) life) d.container.attempt ≡ true)
+      ⊎ IsEndTold (scene (state_later opening d.passage) life) d.name d.container d.attempt d.passage.after)
+  pub settled : (d : DoneNamed settings opening log) (more : List Entry) → d.passage.rest ≡ Settled ∷ more
+      → IsSomeAnd (state_later opening d.passage).life (λ life. IsEndTold (scene (state_later opening d.passage) life) d.name d.container d.attempt d.passage.after)
+
+-- a container is missing, in the life that stands if one does
+abbrev pub is_missing_now : Manager → Option LifeState → ContainerId → Bool
+is_missing_now s None id = false
+is_missing_now s (Some life) id = is_missing (scene s life) id
+
+-- an entry begins a life, or ends one
+abbrev pub is_bound : Entry → Bool
+is_bound (Opened landed epoch stamp) = true
+is_bound Down = true
+is_bound _ = false
+
+-- Missing falls: inside a life no container becomes missing, so that what a node's beat named as done and the manager worked off stays worked
+-- off.
+abbrev pub MissingFalls : List Op → List Entry → Type 0
+MissingFalls opening log =
+    (p : Passage log) (id : ContainerId) → list_any is_bound (p.entry ∷ p.after) ≡ false → is_missing_now (state_later opening p) (state_later opening p).life id ≡ true
+    → is_missing_now (state_before opening p) (state_before opening p).life id ≡ true

@@ -1,2 +1,4 @@
 pub use Rattle.rm_model.specs.Lawful
+pub mod FirstAttempts
 pub mod Laws
+pub mod Reductions

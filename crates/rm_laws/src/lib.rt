@@ -7,7 +7,8 @@
 ghost use Rattle.std.specs.Prelude.{◌≡◌, None};
 ghost use Rattle.rm_types.specs.Records.{stray};
 ghost use Rattle.rm_model.specs.Lawful.{Lawful};
-ghost use Rattle.rm_laws.specs.Laws.{BookIsOfLog, CleansStrangers, EndsStay, GrantsDiffer, IdsDiffer, KeptStays, LivesDiffer, NoneStray, RegisteredAreKept, RowsFit, ToldStays};
+ghost use Rattle.rm_laws.specs.Reductions.{WithoutKeep, WithoutRecovery};
+ghost use Rattle.rm_laws.specs.Laws.{BookIsOfLog, CleansStrangers, EndsAreTold, EndsStay, GrantsDiffer, IdsDiffer, KeptStays, LivesDiffer, MissingFalls, NoneStray, RegisteredAreKept, ReleasedStay, RowsFit, ToldStays};
 
 use rm_types::{Entry, Items, Op, Script, Settings};
 
@@ -103,4 +104,45 @@ pub fn law_registered(settings: &Settings, script: &Script, opening: &Items<Op>,
     requires lawful { Lawful settings.now script.now opening.now log.now }
     requires whole { stray opening.now ≡ None }
     ensures law { RegisteredAreKept opening.now log.now }
+{}
+
+/// What was released stays released: where the cluster recovers ended containers, a container that an attempt
+/// released before a node reported it is in no book of that life.
+pub fn law_released(settings: &Settings, script: &Script, opening: &Items<Op>, log: &Items<Entry>)
+    requires lawful { Lawful settings.now script.now opening.now log.now }
+    requires whole { stray opening.now ≡ None }
+    ensures law { ReleasedStay settings.now opening.now log.now }
+{}
+
+/// What ended is told: let a node's new beat name a container as done that is wanted and that is in the book on
+/// the node or, where the cluster recovers ended containers, astray. Once what the node said is worked off, in the
+/// same life and until the end of the application's last attempt is kept, that attempt was told of the
+/// container's end, or its end waits for it, or another node runs the container, or the container was its
+/// attempt's master, which is lost; and where the log settles next, it is one of the first three.
+pub fn law_done(settings: &Settings, script: &Script, opening: &Items<Op>, log: &Items<Entry>)
+    requires lawful { Lawful settings.now script.now opening.now log.now }
+    requires whole { stray opening.now ≡ None }
+    ensures law { EndsAreTold settings.now opening.now log.now }
+{}
+
+/// No container becomes missing inside a life: one that is in the book, has left it in this life, is of the life's own
+/// epoch, whose attempt wasn't kept when the life began, or that isn't wanted, is not looked for again.
+pub fn law_missing(settings: &Settings, script: &Script, opening: &Items<Op>, log: &Items<Entry>)
+    requires lawful { Lawful settings.now script.now opening.now log.now }
+    requires whole { stray opening.now ≡ None }
+    ensures law { MissingFalls opening.now log.now }
+{}
+
+/// An application that doesn't keep gets what it got before there were kept containers, whatever log it is: its containers
+/// are wanted while their attempt goes on and stale once that is over, nobody is told of an end after it, an attempt
+/// has its own containers at its disposal alone, and it registers without any.
+pub fn law_without_keep(opening: &Items<Op>, log: &Items<Entry>)
+    ensures law { WithoutKeep opening.now log.now }
+{}
+
+/// Where the cluster doesn't recover ended containers, nothing is looked for outside the book, whatever log it is: no
+/// container is astray or pending, a beat ends what it names of its own node's, an absorption takes what is wanted
+/// and fits, and a master is told of its own attempt's grants.
+pub fn law_without_recovery(settings: &Settings, opening: &Items<Op>, log: &Items<Entry>)
+    ensures law { WithoutRecovery settings.now opening.now log.now }
 {}

@@ -1,7 +1,10 @@
--- What is said of attempts and their masters in a scene: kept, ended, over; live, registered, finishing. That an attempt has
--- one master, in its first container, is after YARN's documentation; the words are this project's own.
-use Rattle.std.specs.Prelude.{ℕ, ◌+◌, List, Bool, true, false, ◌&&◌, ◌||◌, not, ◌==◌, Option, is_some, is_none, find, option_and_then, count_by}
+-- What is said of attempts and their masters in a scene: kept, ended, current; live, registered, finishing; and of containers, as
+-- far as it goes by their attempts: a master's, wanted, stale. That an attempt has one master, in its first container, is after
+-- YARN's documentation, and that an application may keep the containers of an attempt that ended is YARN's
+-- `keepContainersAcrossApplicationAttempts` of its work-preserving restart of masters; the words are this project's own.
+use Rattle.std.specs.Prelude.{ℕ, ◌+◌, List, Bool, true, false, ◌&&◌, ◌||◌, not, ◌==◌, Option, None, Some, is_some, is_none, if◌then◌else◌, find, option_and_then, count_by}
 use Rattle.std.specs.List.{list_any}
+use Rattle.rm_types.specs.declared.ids.AppId.{AppId}
 use Rattle.rm_types.specs.declared.ids.AttemptId.{AttemptId}
 use Rattle.rm_types.specs.declared.ids.ContainerId.{ContainerId}
 use Rattle.rm_types.specs.declared.operations.How.{How}
@@ -11,7 +14,7 @@ use Rattle.rm_types.specs.declared.records.AttemptRecord.{AttemptRecord}
 use Rattle.rm_types.specs.Ids.{is_attempt, is_container}
 use Rattle.rm_types.specs.Records.{record_of, last_attempt, is_some_and}
 use Rattle.rm_model.specs.State.{Scene, MasterState}
-use Rattle.rm_model.specs.Facts.{attempts_in, awaits, has_container, is_attempt_end_op, is_kept, kept_attempts, kept_end}
+use Rattle.rm_model.specs.Facts.{attempts_in, awaits, app_goes_on, has_container, is_attempt_end_op, is_kept, keeps, kept_attempts, kept_record}
 
 -- it ended FAILED
 abbrev pub is_failed : How → Bool
@@ -47,10 +50,6 @@ attempt_end m id = option_and_then (λ one. one.ending) (kept_attempt m id)
 abbrev pub attempt_end_issued : Scene → AttemptId → Bool
 attempt_end_issued m id = awaits m (is_attempt_end_op id) || is_some (attempt_end m id)
 
--- an attempt is over where its application has no record, or the application's or the attempt's end is kept
-abbrev pub is_over : Scene → AttemptId → Bool
-is_over m id = not (is_kept m id.app) || is_some (kept_end m id.app) || is_some (attempt_end m id)
-
 -- an attempt is its application's last kept one
 abbrev pub is_last : Scene → AttemptId → Bool
 is_last m id = is_some_and (λ last. is_attempt last.id id) (last_attempt (kept_attempts m id.app))
@@ -67,6 +66,26 @@ is_own_master m id = is_some_and (λ one. is_container one.master id) (kept_atte
 -- names it
 abbrev pub is_masters : Scene → ContainerId → Bool
 is_masters m id = is_kept m id.attempt.app && (not (attempt_is_kept m id.attempt) || is_own_master m id)
+
+-- a container is wanted where its application goes on, its attempt is kept, and either that attempt has no kept end, or the
+-- application keeps and it is no master's
+abbrev pub is_wanted : Scene → ContainerId → Bool
+is_wanted m id =
+    app_goes_on (kept_record m id.attempt.app)
+    && (attempt_is_kept m id.attempt
+    && (is_none (attempt_end m id.attempt) || (keeps (kept_record m id.attempt.app) && not (is_masters m id))))
+
+-- a container is stale where its application doesn't go on by its record, or its attempt is kept with an end and it isn't wanted
+abbrev pub is_stale : Scene → ContainerId → Bool
+is_stale m id = not (app_goes_on (kept_record m id.attempt.app)) || (is_some (attempt_end m id.attempt) && not (is_wanted m id))
+
+-- an attempt without a kept end, else none
+abbrev pub unended : AttemptRecord → Option AttemptId
+unended attempt = if is_none attempt.ending then Some attempt.id else None
+
+-- the heir of an application: its last kept attempt, where that has no kept end
+abbrev pub heir : Scene → AppId → Option AttemptId
+heir m id = option_and_then unended (last_attempt (kept_attempts m id))
 
 -- an attempt is live while it is kept and its end isn't issued
 abbrev pub is_live : Scene → AttemptId → Bool

@@ -1,5 +1,5 @@
 -- What is said of operations and applications in a scene: kept, known, issued, ended. These words are this project's own.
-use Rattle.std.specs.Prelude.{ℕ, ◌+◌, min, List, [], Bool, true, false, ◌&&◌, ◌||◌, not, ◌==◌, nat_le, Option, None, Some, is_some, if◌then◌else◌, find, option_map, option_and_then, length, count_by}
+use Rattle.std.specs.Prelude.{ℕ, ◌+◌, min, List, [], Bool, true, false, ◌&&◌, ◌||◌, not, ◌==◌, nat_le, Option, None, Some, is_none, is_some, if◌then◌else◌, find, option_map, option_and_then, length, count_by}
 use Rattle.std.specs.List.{list_any}
 use Rattle.rm_types.specs.declared.ids.AppId.{AppId}
 use Rattle.rm_types.specs.declared.ids.AttemptId.{AttemptId}
@@ -99,6 +99,17 @@ attempts_in (Some app) = app.attempts
 abbrev pub end_in : Option AppRecord → Option (How × List ℕ)
 end_in None = None
 end_in (Some app) = app.ending
+
+-- an application goes on by its record: it has one, and no end in it
+abbrev pub app_goes_on : Option AppRecord → Bool
+app_goes_on None = false
+app_goes_on (Some app) = is_none app.ending
+
+-- an application keeps the containers of an attempt that ended, for the next one: it has a record, which says so (YARN's
+-- `KeepContainersAcrossApplicationAttempts`)
+abbrev pub keeps : Option AppRecord → Bool
+keeps None = false
+keeps (Some app) = app.submission.keep
 
 -- the kept attempts of an application, in order
 abbrev pub kept_attempts : Scene → AppId → List AttemptRecord

@@ -6,7 +6,7 @@ use Rattle.rm_types.specs.declared.settings.Settings.{Settings}
 use Rattle.rm_types.specs.Records.{last_attempt, all_ended, is_some_and}
 use Rattle.rm_model.specs.State.{Scene, Row, NodeState}
 use Rattle.rm_model.specs.Facts.{completed, has_container, is_accepted, is_kept, is_known, is_wished, kept_attempts, kept_end, kept_record, next_attempt, reaches_bound}
-use Rattle.rm_model.specs.Attempts.{attempt_is_kept, finishing_text, has_expired, has_failed, has_master_ask, is_over, kept_here}
+use Rattle.rm_model.specs.Attempts.{attempt_is_kept, finishing_text, has_expired, has_failed, has_master_ask, is_stale, kept_here}
 
 -- an application that is known and has no kept end
 pub record IsUnfinished (m : Scene) (id : AppId) : Type 0 where
@@ -49,8 +49,8 @@ pub data Owed (settings : Settings) (m : Scene) : Type 0 where
       → has_container m.life.masters.ordered attempt.master ≡ false → Owed settings m
   -- something of a node is not worked off
   working : (node : NodeState) → Contains m.life.nodes node → node.undone ≢ [] → Owed settings m
-  -- a row has the released mark, or its attempt is over, or its attempt is not kept
+  -- a row has the released mark, or is stale, or its attempt is not kept
   leaving : (row : Row) → Contains m.life.book row
-      → (row.released || (is_over m row.id.attempt || not (attempt_is_kept m row.id.attempt))) ≡ true → Owed settings m
+      → (row.released || (is_stale m row.id || not (attempt_is_kept m row.id.attempt))) ≡ true → Owed settings m
   -- more applications are completed than are remembered
   retiring : settings.max_completed < completed m → Owed settings m

@@ -74,7 +74,7 @@ without_granted asks grant = asks_lessened grant.id.attempt asks (answered_ask a
 
 -- a row as it enters the book by a grant
 abbrev pub row_granted : Grant → Row
-row_granted grant = record { id = grant.id; node = grant.node; size = grant.size; state = Granted; released = false }
+row_granted grant = record { id = grant.id; node = grant.node; size = grant.size; state = Granted; released = false; untold = false }
 
 -- a node after the pass of its beat, which is worked off
 abbrev pub passed : NodeState → NodeState

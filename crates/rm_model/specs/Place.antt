@@ -1,6 +1,6 @@
 -- Where a log stands in its script: the script says which life begins, which messages are served and how a segment closes. This
 -- project's own.
-use Rattle.std.specs.Prelude.{◌≡◌, ℕ, ◌+◌, max, List, [], ◌∷◌, Bool, true, false, Option, None, Some, find}
+use Rattle.std.specs.Prelude.{◌≡◌, ◌≢◌, ℕ, ◌+◌, max, List, [], ◌∷◌, ◌++◌, Bool, true, false, Option, None, Some, find}
 use Rattle.rm_types.specs.declared.entries.Entry.{Entry}
 use Rattle.rm_types.specs.declared.entries.Entry.TheVariants.{Opened, Blown, Served, Settled, Down}
 use Rattle.rm_types.specs.declared.messages.Message.{Message}
@@ -119,3 +119,34 @@ moved p (Served sender message reply) = record p { segments = segments_without s
 moved p Settled = record p { segments = rest_of p.segments }
 moved p Down = record p { segments = rest_of p.segments }
 moved p _ = p
+
+-- what a script has more at its end: a life, or a segment of its last life. This project's own
+pub data Growth : Type 0 where
+  ByLife : (life : Life) → Growth
+  BySegment : (segment : Segment) → Growth
+
+-- the lives, of which the last has this segment more at its end
+abbrev pub lives_grown : Segment → List Life → List Life
+lives_grown segment [] = []
+lives_grown segment (life ∷ []) = record life { segments = life.segments ++ segment ∷ [] } ∷ []
+lives_grown segment (life ∷ next ∷ more) = life ∷ lives_grown segment (next ∷ more)
+
+-- the segments that are left of the current life, which has this one more at its end where no life is left behind it
+abbrev pub segments_grown : Segment → List Life → List Segment → List Segment
+segments_grown segment [] segments = segments ++ segment ∷ []
+segments_grown segment (life ∷ more) segments = segments
+
+-- the script with this more at its end. This project's own
+abbrev pub script_grown : Growth → Script → Script
+script_grown (ByLife life) script = record { lives = script.lives ++ life ∷ [] }
+script_grown (BySegment segment) script = record { lives = lives_grown segment script.lives }
+
+-- what is left of the script that has this more at its end, where this is left of it without. This project's own
+abbrev pub place_grown : Growth → Place → Place
+place_grown (ByLife life) p = record { lives = p.lives ++ life ∷ []; segments = p.segments }
+place_grown (BySegment segment) p = record { lives = lives_grown segment p.lives; segments = segments_grown segment p.lives p.segments }
+
+-- a script may have this more at its end: a segment needs a life that it is of
+abbrev pub MayGrow : Growth → Script → Type 0
+MayGrow (ByLife life) script = Unit {0}
+MayGrow (BySegment segment) script = script.lives ≢ []

@@ -1,6 +1,6 @@
 -- When an entry is allowed in the state before it: a rule for each kind of entry. Where a rule doesn't name its source, it is
 -- this project's own.
-use Rattle.std.specs.Prelude.{◌≡◌, ◌≢◌, ℕ, ◌<◌, ◌^◌, ◌⊎◌, List, [], true, false, ◌||◌, Option, None, Some, is_some, slice_get, IsSomeAnd}
+use Rattle.std.specs.Prelude.{◌≡◌, ◌≢◌, ℕ, ◌<◌, ◌⊎◌, List, [], true, false, ◌||◌, Option, None, Some, is_some, slice_get, IsSomeAnd}
 use Rattle.std.specs.List.{list_any}
 use Rattle.rm_types.specs.declared.containers.Grant.{Grant}
 use Rattle.rm_types.specs.declared.containers.Held.{Held}
@@ -107,16 +107,16 @@ pub record MayOrder (m : Scene) (container : ContainerId) (node : List ℕ) : Ty
 
 -- a node may be absorbed where its last registration is the first thing that is not worked off: what is taken is what its report
 -- gives, and what stood on it and isn't taken ends, in ascending order
-pub record MayAbsorb (m : Scene) (node : NodeState) (taken : List Held) (ended : List ContainerId) : Type 0 where
+pub record MayAbsorb (settings : Settings) (m : Scene) (node : NodeState) (taken : List Held) (ended : List ContainerId) : Type 0 where
   pub registration : slice_get node.undone 0 ≡ Some (Registered node.last.turn)
-  pub takes : taken ≡ taken_of m node
+  pub takes : taken ≡ taken_of settings m node
   pub ends : Ascend (not_taken m node taken) ended
 
 -- a beat may be answered by a pass where it is the first thing that is not worked off, and nothing that it reports as done is
--- in the book on the node; what is granted is what the pass gives
+-- astray or in the book on the node; what is granted is what the pass gives
 pub record MayPass (settings : Settings) (m : Scene) (node : NodeState) (grants : List Grant) : Type 0 where
   pub beat : is_some (beat_at node.undone) ≡ true
-  pub none_done : done_on m node ≡ []
+  pub none_done : done_on settings m node ≡ []
   pub grants_are : grants ≡ pass_of settings m node
 
 -- a segment may settle where nothing awaits and nothing is owed
@@ -142,10 +142,10 @@ AllowedIn settings m (Blown passed) = MayBlow m
 AllowedIn settings m (Served sender message reply) = MayServe settings m sender message reply
 AllowedIn settings m (Accepted app) = MayAccept m app
 AllowedIn settings m (Queued attempt) = MayQueue settings m attempt
-AllowedIn settings m (Absorbed name taken ended) = IsSomeAnd (judged_node m.life.nodes name) (λ node. MayAbsorb m node taken ended)
+AllowedIn settings m (Absorbed name taken ended) = IsSomeAnd (judged_node m.life.nodes name) (λ node. MayAbsorb settings m node taken ended)
 AllowedIn settings m (Pass name grants) = IsSomeAnd (judged_node m.life.nodes name) (λ node. MayPass settings m node grants)
 AllowedIn settings m (Ordered container node) = MayOrder m container node
-AllowedIn settings m (Ended cause list) = MayEnd m cause list
+AllowedIn settings m (Ended cause list) = MayEnd settings m cause list
 AllowedIn settings m Settled = MaySettle settings m
 AllowedIn settings m Down = MayGoDown m
 AllowedIn settings m (Quiet lane) = IsDispatcher lane

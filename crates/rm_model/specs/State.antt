@@ -3,7 +3,7 @@
 -- page on ResourceManager Restart and the design YARN-556; that it is told so, and in these parts, is this project's own.
 use Rattle.std.specs.Prelude.{ℕ, List, [], Bool, false, Option, None}
 use Rattle.rm_types.specs.declared.containers.AskOf.{AskOf}
-use Rattle.rm_types.specs.declared.containers.Closing.{Closing}
+use Rattle.rm_types.specs.declared.containers.ClosingOf.{ClosingOf}
 use Rattle.rm_types.specs.declared.containers.ContainerState.{ContainerState}
 use Rattle.rm_types.specs.declared.containers.Held.{Held}
 use Rattle.rm_types.specs.declared.ids.AppId.{AppId}
@@ -42,14 +42,15 @@ pub record Masters : Type 0 where
   -- the masters' containers that were ordered on their nodes, as YARN's launcher of ApplicationMasters does
   pub ordered : List ContainerId
 
--- a living container (`RMContainer` in YARN): on which node, of what size, how far it has come, and whether its attempt
--- released it
+-- a living container (`RMContainer` in YARN): on which node, of what size, how far it has come, whether it was released, and
+-- whether it is untold: an absorption took it in, and no master of a later attempt was told of it since
 pub record Row : Type 0 where
   pub id : ContainerId
   pub node : List ℕ
   pub size : Resource
   pub state : ContainerState
   pub released : Bool
+  pub untold : Bool
 
 -- the containers that an attempt released in one message
 pub record Release : Type 0 where
@@ -58,12 +59,14 @@ pub record Release : Type 0 where
 
 -- what this life knows of ended containers
 pub record Endings : Type 0 where
-  -- the endings that the attempts' masters were not told yet (completed container statuses, in YARN)
-  pub outbox : List Closing
+  -- the endings that masters were not told yet, each with the attempt that is to be told (completed container statuses, in YARN)
+  pub outbox : List ClosingOf
   -- all containers that left the book
   pub left : List ContainerId
   -- the releases that were served since the last Settled
   pub releases : List Release
+  -- the containers that were released in this life while they were missing (`pendingRelease` of an attempt, in YARN's schedulers)
+  pub pending : List ContainerId
 
 -- a node's registration (that of a NodeManager, in YARN): its turn, which rises with each registration of the node, what it
 -- offers, and what it reports as running
@@ -169,7 +172,7 @@ new_life epoch stamp first =
       masters = record { registered = []; expired = []; ordered = [] };
       asks = [];
       book = [];
-      endings = record { outbox = []; left = []; releases = [] };
+      endings = record { outbox = []; left = []; releases = []; pending = [] };
       nodes = [];
     }
 
