@@ -7,6 +7,7 @@ pub mod BookSteps
 pub mod Changes
 pub mod Entries
 pub mod GroupSteps
+pub mod HandedOver
 pub mod IdLists
 pub mod Kept
 pub mod LeavingSteps

@@ -1,12 +1,13 @@
 -- What attempts were granted and nobody was told of yet. This project's own.
-use Rattle.std.specs.Prelude.{◌≡◌, List, [], ◌∷◌, Bool, true, false, ◌&&◌, IfSome, filter, find, map, Option, option_map}
+use Rattle.std.specs.Prelude.{◌≡◌, List, [], ◌∷◌, Bool, true, false, ◌&&◌, IfSome, filter, find, map, Option, None, Some, option_map, option_and_then, if◌then◌else◌}
 use Rattle.rm_types.specs.declared.containers.BookRow.{BookRow}
 use Rattle.rm_types.specs.declared.containers.ContainerState.{ContainerState}
 use Rattle.rm_types.specs.declared.containers.ContainerState.TheVariants.{Granted, Acquired, Running, Completed}
 use Rattle.rm_types.specs.declared.containers.Grant.{Grant}
+use Rattle.rm_types.specs.declared.ids.AppId.{AppId}
 use Rattle.rm_types.specs.declared.ids.AttemptId.{AttemptId}
 use Rattle.rm_types.specs.declared.ids.ContainerId.{ContainerId}
-use Rattle.rm_types.specs.Ids.{is_attempt}
+use Rattle.rm_types.specs.Ids.{is_app, is_attempt}
 use Rattle.rm_book.specs.Books.{is_of}
 use Rattle.rm_types.specs.Containers.{is_granted}
 
@@ -37,6 +38,23 @@ AllMayBeTold rows (grant ∷ grants) = IfSome (find (is_of grant.id) rows) (λ r
 -- the grant of a container, if it has a row
 abbrev pub grant_in : List BookRow → ContainerId → Option Grant
 grant_in rows id = option_map row_grant (find (is_of id) rows)
+
+-- a row is of a container that was granted, and that nobody was told of yet
+abbrev pub is_granted_row : Option BookRow → Bool
+is_granted_row None = false
+is_granted_row (Some row) = is_granted row.state
+
+-- the grants of an application's rows that pass a test, in the order of entering
+abbrev pub grants_where : AppId → (BookRow → Bool) → List BookRow → List Grant
+grants_where app test rows = map row_grant (filter (λ row. is_app row.id.attempt.app app && test row) rows)
+
+-- the grant of a row that passes a test
+abbrev pub grant_where : (BookRow → Bool) → BookRow → Option Grant
+grant_where test row = if test row then Some (row_grant row) else None
+
+-- the grant of a container, if it has a row that passes a test
+abbrev pub passing_grant : (BookRow → Bool) → List BookRow → ContainerId → Option Grant
+passing_grant test rows id = option_and_then (grant_where test) (find (is_of id) rows)
 
 -- a container in this state was granted to this attempt, and nobody was told of it yet
 abbrev pub is_untold_to_attempt : ContainerId → ContainerState → AttemptId → Bool

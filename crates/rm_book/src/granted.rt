@@ -1,11 +1,13 @@
 //! What attempts were granted and nobody was told of yet.
-ghost use Rattle.std.specs.Prelude.{◌≡◌, IfOk};
-ghost use Rattle.rm_book.specs.Granted.{AllMayBeTold, grant_in, row_grant, grants_to};
+ghost use Rattle.std.specs.Prelude.{◌≡◌, Bool, IfOk};
+ghost use Rattle.std.specs.Fn.{FnReturnsAt};
+ghost use Rattle.rm_types.specs.declared.containers.BookRow.{BookRow as Row};
+ghost use Rattle.rm_book.specs.Granted.{AllMayBeTold, grant_in, row_grant, grants_to, grants_where};
 ghost use Rattle.rm_types.specs.Containers.{is_granted};
 
 use crate::row_table::RowTable;
 use rm_types::{
-    AttemptId, BookRow, ContainerId, ContainerState, Duplicate, Grant, Items, NoMemory,
+    AppId, AttemptId, BookRow, ContainerId, ContainerState, Duplicate, Grant, Items, NoMemory,
 };
 
 /// Whether a container in this state was granted, and nobody was told of it yet.
@@ -50,4 +52,27 @@ fn grant_in(rows: &RowTable, id: ContainerId) -> Result<Option<Grant>, NoMemory>
         Some(row) => Ok(Some(grant_of(row)?)),
         None => Ok(None),
     }
+}
+
+/// The grants of an application's rows that pass a test, in the order of entering.
+pub fn grants_where<F: Fn(&BookRow) -> bool>(
+    rows: &RowTable,
+    app: AppId,
+    test: F,
+) -> Result<Items<Grant>, NoMemory>
+where
+    F: Drop,
+    requires { F.IsAlwaysCallable test }
+    ensures { (p : Row → Bool) → ((row : Row) (answer : Bool) → FnReturnsAt F.Fn test row answer → answer ≡ p row) → IfOk result (λ grants. grants ≡ grants_where app p rows.now) }
+{
+    let ids = rows.ids_of(app)?;
+    let mut grants = Items::new(rows.allocator());
+    'ids: for id in ids.as_slice() {
+        if let Some(row) = rows.get(*id) {
+            if test(row) {
+                grants.push(grant_of(row)?)?;
+            }
+        }
+    }
+    Ok(grants)
 }

@@ -2,7 +2,7 @@ ghost use Rattle.std.specs.Prelude.{◌≡◌, ◌&&◌, ◌==◌, option_map, t
 ghost use Rattle.std.specs.Option.{option_copied};
 ghost use Rattle.rm_model.specs.Issuing.{expired_text as text_of_expiry, lost_text as text_of_loss};
 ghost use Rattle.rm_tables.specs.Actions.{ends_attempt};
-ghost use Rattle.rm_tables.specs.MainEvents.{expiry_of_row, finish_of_row, finishing_in, grant_of_row, grant_of_place, is_master_of, launch_of_master, launch_of_row, launch_of_tests, is_living_one, loss_of_state, loss_of_row, node_at};
+ghost use Rattle.rm_tables.specs.MainEvents.{expiry_of_row, finish_of_row, finishing_in, grant_of_row, grant_of_place, is_master_of, launch_of_master, launch_of_row, launch_of_tests, is_living_one, loss_of_current, loss_of_state, loss_of_row, node_at};
 ghost use Rattle.rm_tables.specs.Rows.{row_of};
 
 use crate::ends::{end_attempt, killed_text, requeue};
@@ -157,11 +157,19 @@ pub fn saved(t: &mut Tables, id: AttemptId) -> Result<Entry, NoMemory>
     launch(t, id, wish, current.lost, current.master)
 }
 
-/// MasterLost, where the container is the current attempt's master.
-fn lose(t: &mut Tables, container: ContainerId, state: AttemptState) -> Result<Entry, NoMemory>
-    ensures ok { IfOk result (λ e. (e, t.new) ≡ loss_of_state state true container t.old) }
+/// MasterLost, by the state of the current attempt, and whether the container is its master's.
+fn lose(
+    t: &mut Tables,
+    container: ContainerId,
+    state: AttemptState,
+    mine: bool,
+) -> Result<Entry, NoMemory>
+    ensures ok { IfOk result (λ e. (e, t.new) ≡ loss_of_state state mine container t.old) }
     ensures err { OnErr result (t.new ≡ t.old) }
 {
+    if !mine {
+        return Ok(quiet());
+    }
     match state {
         AttemptState::Saving => {
             let change = AttemptChange::Lose;
@@ -176,6 +184,22 @@ fn lose(t: &mut Tables, container: ContainerId, state: AttemptState) -> Result<E
     }
 }
 
+/// MasterLost, by the current attempt of the application.
+fn lose_current(
+    t: &mut Tables,
+    container: ContainerId,
+    current: Option<Current>,
+) -> Result<Entry, NoMemory>
+    ensures ok { IfOk result (λ e. (e, t.new) ≡ loss_of_current current container t.old) }
+    ensures err { OnErr result (t.new ≡ t.old) }
+{
+    let Some(current) = current else {
+        return Ok(quiet());
+    };
+    let mine = current.number == container.attempt.number && is_mine(container, current.master);
+    lose(t, container, current.state, mine)
+}
+
 /// MasterLost: an attempt whose master's container left the book fails, or is marked while it is being saved.
 pub fn lost(t: &mut Tables, container: ContainerId) -> Result<Entry, NoMemory>
     ensures ok { IfOk result (λ e. (e, t.new) ≡ loss_of_row (row_of t.old.rows container.attempt.app) container t.old) }
@@ -184,13 +208,8 @@ pub fn lost(t: &mut Tables, container: ContainerId) -> Result<Entry, NoMemory>
     let Some(row) = t.rows.find(container.attempt.app) else {
         return Ok(quiet());
     };
-    let Some(current) = row.current else {
-        return Ok(quiet());
-    };
-    if current.number != container.attempt.number || !is_mine(container, current.master) {
-        return Ok(quiet());
-    }
-    lose(t, container, current.state)
+    let current = row.current;
+    lose_current(t, container, current)
 }
 
 /// AttemptExpired: an attempt fails whose master's lease ran out.

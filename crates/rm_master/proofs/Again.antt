@@ -1,6 +1,7 @@
 -- Where the row of an attempt that lives and its master change alike, and the attempt lives on, the tables show the judge's scene again.
-use Rattle.rm_master.proofs.Common.{◌≡◌, ℕ, List, Bool, true, false, ◌&&◌, Option, None, Some, is_some, refl, sym, ◌∙◌, ap, subst, arith, option_map, ◌==◌, nat_lt, false≢true, nat_tests, Closing, AttemptId, ContainerId, is_app, is_attempt, BookOf, is_alive, MasterState, Row, Scene, has_app, AppRow, Tables, row_of, SameRows, bare_dialogue, closings_for, session_of, plain_dialogue, RefinesLife, lives_by}
+use Rattle.rm_master.proofs.Common.{◌≡◌, ℕ, List, Bool, true, false, ◌&&◌, Option, None, Some, is_some, refl, sym, ◌∙◌, ap, subst, arith, option_map, ◌==◌, nat_lt, false≢true, nat_tests, AttemptId, ContainerId, is_app, is_attempt, BookOf, is_alive, MasterState, Row, Scene, has_app, AppRow, Tables, row_of, SameRows, bare_dialogue, closings_for, session_of, plain_dialogue, RefinesLife, lives_by}
 use Rattle.rm_types.specs.declared.containers.AskOf.{AskOf}
+use Rattle.rm_types.specs.declared.containers.ClosingOf.{ClosingOf}
 use Rattle.rm_types.specs.declared.ids.AppId.{AppId}
 use Rattle.rm_types.proofs.IdLemmas.{same_attempt, same_app}
 use Rattle.rm_book.specs.AskTables.{AsksOf}
@@ -12,7 +13,7 @@ use Rattle.rm_tables.specs.declared.events.SchedEvent.{SchedEvent}
 use Rattle.rm_tables.specs.declared.rows.Current.{Current}
 use Rattle.rm_tables.specs.Rows.{with_row}
 use Rattle.rm_refinement.specs.Agreement.{AttemptAgrees, ClosingsAgree, HasNoSession, NumberAgrees, RowAgrees, SameAsks, SameNodes}
-use Rattle.rm_refinement.specs.Services.{finishes_by, is_ending}
+use Rattle.rm_refinement.specs.Services.{AgreesAround, finishes_by, is_ending}
 use Rattle.rm_refinement.proofs.AppRows.{other_row, own_row}
 use Rattle.rm_master.proofs.Replies.{Lives}
 
@@ -55,7 +56,7 @@ module _ (m : Scene) (t : Tables) (attempt : AttemptId) (shows : RefinesLife m t
     (f : AppRow → AppRow) (next : Current) (next_is : (f here.row).current ≡ Some next) (number : next.number ≡ here.current.number) (granted : next.granted ≡ here.current.granted) (alive : is_alive next.state ≡ true)
     (registered : List MasterState) (spoken : option_map bare_dialogue (f here.row).dialogue ≡ option_map plain_dialogue (session_of registered attempt)) (known : next.registered ≡ is_some (f here.row).dialogue)
     (others : (q : AttemptId) → is_attempt attempt q ≡ false → session_of registered q ≡ session_of m.life.masters.registered q)
-    (outbox : List Closing) (told : (f here.row).closings ≡ closings_for outbox attempt.app) (untold : (q : AppId) → is_app attempt.app q ≡ false → closings_for outbox q ≡ closings_for m.life.endings.outbox q) where
+    (outbox : List ClosingOf) (told : (f here.row).closings ≡ closings_for outbox attempt.app) (untold : (q : AppId) → is_app attempt.app q ≡ false → closings_for outbox q ≡ closings_for m.life.endings.outbox q) where
   abbrev rows : List (AppId × Option AppRow)
   rows = with_row f attempt.app t.rows
 
@@ -148,11 +149,13 @@ module _ (m : Scene) (t : Tables) (attempt : AttemptId) (shows : RefinesLife m t
       by true e = subst (λ (z : AppId). ClosingsAgree outbox z (has_app m.life.apps.retired z) (row_of rows z)) (same_app attempt.app q e) (rw found told)
 
   -- the whole
-  pub again : (table : List AsksOf) (book : BookOf) (sched : List SchedEvent) (main : List MainEvent) (asks : List AskOf) (living : List Row) (endings : Endings)
+  pub again : (table : List AsksOf) (book : BookOf) (sched : List SchedEvent) (main : List MainEvent) (pending : List ContainerId) (asks : List AskOf) (living : List Row) (endings : Endings)
       → SameRows book.rows living → SameNodes book t.nodes m.life.nodes → SameAsks table asks → endings.outbox ≡ outbox
+      → AgreesAround (record m { life = record m.life { masters = record m.life.masters { registered = registered }; asks = asks; book = living; endings = endings } })
+      (record t { rows = with_row f attempt.app t.rows; asks = table; book = book; sched = sched; main = main; pending = pending })
       → RefinesLife (record m { life = record m.life { masters = record m.life.masters { registered = registered }; asks = asks; book = living; endings = endings } })
-      (record t { rows = with_row f attempt.app t.rows; asks = table; book = book; sched = sched; main = main })
-  again table book sched main asks living endings same_rows same_nodes same_asks is =
+      (record t { rows = with_row f attempt.app t.rows; asks = table; book = book; sched = sched; main = main; pending = pending })
+  again table book sched main pending asks living endings same_rows same_nodes same_asks is around =
       record {
         records = shows.records;
         epoch = shows.epoch;
@@ -163,4 +166,5 @@ module _ (m : Scene) (t : Tables) (attempt : AttemptId) (shows : RefinesLife m t
         masters = masters_again;
         live = λ q. shows.live q ∙ lives_again q;
         finishes = λ q. shows.finishes q ∙ ends_again q;
+        around = around;
       }

@@ -8,3 +8,7 @@ pub mod Masters
 pub mod Again
 pub mod Same
 pub mod Served
+pub mod HandedOver
+pub mod Picked
+pub mod Around
+pub mod Pended

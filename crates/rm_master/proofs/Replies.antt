@@ -1,20 +1,21 @@
 -- What a master is answered from the tables is what the judge answers, where the tables show the judge's scene.
-use Rattle.rm_master.proofs.Common.{◌≡◌, ℕ, ◌+◌, List, [], ◌∷◌, ◌++◌, Bool, true, false, ◌&&◌, ◌||◌, Option, None, Some, is_some, is_none, find, refl, sym, ◌∙◌, ap, if◌then◌else◌, option_map, ◌==◌, AttemptId, Reply, is_attempt, MasterState, Scene, is_live, is_registered, master_of, has_app, is_alive, AppRow, Dialogue, Tables, row_of, bare_dialogue, plain_dialogue, RefinesLife, lives_by}
+use Rattle.rm_master.proofs.Common.{◌≡◌, ℕ, ◌+◌, List, [], ◌∷◌, ◌++◌, Bool, true, false, ◌&&◌, ◌||◌, Option, None, Some, is_some, is_none, find, map, refl, sym, ◌∙◌, ap, if◌then◌else◌, option_map, ◌==◌, Grant, AttemptId, Reply, is_attempt, MasterState, Scene, is_live, is_registered, master_of, has_app, is_alive, AppRow, Dialogue, Tables, row_of, bare_dialogue, plain_dialogue, RefinesLife, lives_by}
 use Rattle.std.specs.Prelude.{option_and_then}
 use Rattle.rm_types.specs.declared.operations.How.{How}
 use Rattle.rm_types.specs.declared.records.AppRecord.{AppRecord}
 use Rattle.rm_types.specs.declared.records.AttemptRecord.{AttemptRecord}
-use Rattle.rm_types.specs.declared.replies.Reply.TheVariants.{NotRegistered, Finishing, Finished}
-use Rattle.rm_types.specs.Records.{is_some_and, records, is_finished}
+use Rattle.rm_types.specs.declared.replies.Reply.TheVariants.{MasterRegistered, Took, NotRegistered, Finishing, Finished}
+use Rattle.rm_types.specs.Records.{Records, is_some_and, record_of, records, is_finished}
 use Rattle.rm_model.specs.Attempts.{attempt_end, has_registered, is_finishing, is_last}
-use Rattle.rm_model.specs.Facts.{attempts_in, awaits, kept_end}
-use Rattle.rm_model.specs.MasterReplies.{finish_reply, is_finished_op, register_reply}
+use Rattle.rm_model.specs.Facts.{attempts_in, awaits, keeps, kept_end}
+use Rattle.rm_model.specs.MasterReplies.{earlier_rows, finish_reply, grant_of, is_finished_op, register_reply, registered_reply}
 use Rattle.rm_tables.specs.declared.rows.Current.{Current}
 use Rattle.rm_tables.specs.Actions.{found_in}
 use Rattle.rm_tables.specs.Leaving.{attempt_in}
 use Rattle.rm_refinement.specs.Agreement.{CurrentAgrees, RowAgrees}
 use Rattle.rm_refinement.specs.Services.{finishes_by, lives_with}
-use Rattle.rm_master.specs.Told.{finish_told, finished_in, has_ended_with, has_finished, is_finished_end, living_row, master_register_told, spoken_by}
+use Rattle.rm_master.specs.Told.{finish_told, finished_in, has_ended_with, has_finished, is_finished_end, living_row, master_register_told, registered_told, spoken_by}
+use Rattle.rm_master.proofs.Granted.{kept_same}
 
 -- an attempt that lives: its application has this row, and this is the current attempt of it
 pub record Lives (m : Scene) (t : Tables) (attempt : AttemptId) : Type 0 where
@@ -64,17 +65,24 @@ same_some (Some one) (Some other) e = refl
 
 -- REGISTRATIONS
 
+-- what one is answered that isn't refused
+registered_alike : (m : Scene) (t : Tables) (attempt : AttemptId) → RefinesLife m t → registered_told t attempt ≡ registered_reply m attempt
+registered_alike m t attempt shows =
+    ap (λ (kept : List Grant). if keeps (found_in t attempt.app) then Took kept else MasterRegistered) (kept_same m t attempt shows.records shows.rows)
+    ∙ ap (λ (r : Records). if keeps (record_of r.apps attempt.app) then Took (map grant_of (earlier_rows m attempt)) else MasterRegistered) (sym shows.records)
+
 register_by : (m : Scene) (t : Tables) (attempt : AttemptId) → RefinesLife m t → (b : Bool) → lives_by attempt (row_of t.rows attempt.app) ≡ b
-    → master_register_told (living_row attempt (row_of t.rows attempt.app)) ≡ register_reply m attempt
+    → master_register_told t attempt (living_row attempt (row_of t.rows attempt.app)) ≡ register_reply m attempt
 register_by m t attempt shows false lives = let live : is_live m attempt ≡ false = shows.live attempt ∙ lives in rw (none_lives attempt (row_of t.rows attempt.app) lives, live) refl
 register_by m t attempt shows true lives =
     let here : Lives m t attempt = lives_here m t attempt shows lives in
     let live : is_live m attempt ≡ true = shows.live attempt ∙ lives in
     let both : is_some here.row.dialogue ≡ has_registered m attempt = same_some here.row.dialogue (master_of m attempt) here.agrees.0 in
-    rw (row_lives attempt (row_of t.rows attempt.app) here.row here.found lives, live, both) refl
+    let answered : registered_told t attempt ≡ registered_reply m attempt = registered_alike m t attempt shows in
+    rw (row_lives attempt (row_of t.rows attempt.app) here.row here.found lives, live, both, answered) refl
 
 -- a registration is answered as the judge does
-pub register_answer : (m : Scene) (t : Tables) (attempt : AttemptId) → RefinesLife m t → master_register_told (living_row attempt (row_of t.rows attempt.app)) ≡ register_reply m attempt
+pub register_answer : (m : Scene) (t : Tables) (attempt : AttemptId) → RefinesLife m t → master_register_told t attempt (living_row attempt (row_of t.rows attempt.app)) ≡ register_reply m attempt
 register_answer m t attempt shows = register_by m t attempt shows (lives_by attempt (row_of t.rows attempt.app)) refl
 
 -- MASTERS THAT FINISH

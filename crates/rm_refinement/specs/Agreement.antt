@@ -4,7 +4,7 @@
 use Rattle.std.specs.Prelude.{◌≡◌, ℕ, List, [], Bool, true, false, ◌&&◌, ◌==◌, nat_le, nat_lt, Option, None, Some, is_some, option_map, filter, find, map, count_by}
 use Rattle.rm_types.specs.declared.containers.AskOf.{AskOf}
 use Rattle.rm_types.specs.declared.containers.BookRow.{BookRow}
-use Rattle.rm_types.specs.declared.containers.Closing.{Closing}
+use Rattle.rm_types.specs.declared.containers.ClosingOf.{ClosingOf}
 use Rattle.rm_types.specs.declared.containers.ContainerState.{ContainerState}
 use Rattle.rm_types.specs.declared.ids.AppId.{AppId}
 use Rattle.rm_types.specs.declared.ids.AttemptId.{AttemptId}
@@ -92,12 +92,12 @@ SameNodes book rows nodes = (name : List ℕ) → option_map (bare_node book nam
 abbrev pub SameAsks : List AsksOf → List AskOf → Type 0
 SameAsks table asks = (attempt : AttemptId) → asks_in table attempt ≡ asks_told asks attempt
 
--- the endings of an application's containers, of all that masters were not told yet
-abbrev pub closings_for : List Closing → AppId → List Closing
-closings_for outbox id = filter (λ one. is_app one.id.attempt.app id) outbox
+-- the endings that masters of an application's attempts were not told yet
+abbrev pub closings_for : List ClosingOf → AppId → List ClosingOf
+closings_for outbox id = filter (λ one. is_app one.attempt.app id) outbox
 
 -- what a row has of them; without a row there are none, unless the application was removed
-abbrev pub ClosingsAgree : List Closing → AppId → Bool → Option AppRow → Type 0
+abbrev pub ClosingsAgree : List ClosingOf → AppId → Bool → Option AppRow → Type 0
 ClosingsAgree outbox id retired None = retired ≡ false → closings_for outbox id ≡ []
 ClosingsAgree outbox id retired (Some row) = row.closings ≡ closings_for outbox id
 

@@ -31,7 +31,7 @@ initial_history kept =
       masters = record { registered = []; expired = []; ordered = [] };
       asks = [];
       book = [];
-      endings = record { outbox = []; left = []; releases = [] };
+      endings = record { outbox = []; left = []; releases = []; pending = [] };
       nodes = [];
     }
 

@@ -23,7 +23,8 @@ use Rattle.rm_book.specs.Books.{BookRowsAreApart, AreOnce, IsBook, capability_of
 use Rattle.rm_types.specs.Containers.{is_held}
 use Rattle.rm_tables.specs.declared.nodes.NodeRow.{NodeRow}
 use Rattle.rm_tables.specs.declared.tables.Tables.{Tables}
-use Rattle.rm_tables.specs.Absorbing.{booked_at, counted_in, is_current_in, is_elsewhere, capability_left, tables_may_take, book_not_taken, reported_in, taken_in, tables_with_counted}
+use Rattle.rm_tables.specs.Absorbing.{booked_at, counted_in, is_elsewhere, is_pending_in, capability_left, tables_may_take, book_not_taken, reported_in, taken_in, tables_with_counted}
+use Rattle.rm_tables.specs.Leaving.{is_wanted_in}
 use Rattle.rm_sched.specs.CanWork.{CanAbsorb}
 
 -- a test of each item, as facts
@@ -100,10 +101,12 @@ module _ (t : Tables) (name : List ℕ) (capability : Resource) where
       → IsTaken t.book.rows name capability (if b then taken ++ held ∷ [] else taken)
   one_more taken held sized so_far false e = so_far
   one_more taken held sized so_far true e =
-      let current : Bool = is_current_in t.tree.apps held.id.attempt in
+      let wanted : Bool = is_wanted_in t.tree.apps held.id in
       let here : Bool = not (is_elsewhere name (find (is_of held.id) t.book.rows)) in
-      let first = and_parts (not (is_held taken held.id)) (current && (here && fits held.size (capability_left capability taken))) e in
-      let second = and_parts current (here && fits held.size (capability_left capability taken)) first.1 in
+      let pending : Bool = not (is_pending_in t held.id) in
+      let zeroth = and_parts pending (not (is_held taken held.id) && (wanted && (here && fits held.size (capability_left capability taken)))) e in
+      let first = and_parts (not (is_held taken held.id)) (wanted && (here && fits held.size (capability_left capability taken))) zeroth.1 in
+      let second = and_parts wanted (here && fits held.size (capability_left capability taken)) first.1 in
       let third = and_parts here (fits held.size (capability_left capability taken)) second.1 in
       record {
         once = once_more taken held so_far.once (turned (is_held taken held.id) first.0);

@@ -2,7 +2,7 @@
 use Rattle.std.proofs.Common.{◌≡◌, Bool, true, false, List, [], ◌∷◌, ◌++◌, Option, None, Some, option_map, refl, sym, ap, ◌∙◌, arith}
 use Rattle.std.proofs.lemmas.Bool.Decides.{nat_tests}
 use Rattle.std.specs.Map.{lookup, set_value}
-use Rattle.rm_types.specs.declared.containers.Closing.{Closing}
+use Rattle.rm_types.specs.declared.containers.ClosingOf.{ClosingOf}
 use Rattle.rm_types.specs.declared.ids.AppId.{AppId}
 use Rattle.rm_types.specs.Ids.{is_app}
 use Rattle.rm_types.proofs.IdLemmas.{same_app}
@@ -16,7 +16,7 @@ abbrev Slots : Type 0
 Slots = List (AppId × Option AppRow)
 
 abbrev Lists : Type 0
-Lists = List (AppId × List Closing)
+Lists = List (AppId × List ClosingOf)
 
 not_both : (a b x : AppId) → is_app a b ≡ false → is_app a x ≡ true → is_app b x ≡ false
 not_both a b x e f = grind (arith, nat_tests)
@@ -81,70 +81,70 @@ changes_alike f g id rows row found same = by (slot_of rows id) found
         rw at refl
 
 -- an ending of an application that has a list
-ending_here : (c : Closing) (lists : Lists) (rows : Slots) (v : List Closing) → lookup (is_app c.id.attempt.app) lists ≡ Some v → with_lists (with_closing lists c) rows ≡ closed_one (with_lists lists rows) c
+ending_here : (c : ClosingOf) (lists : Lists) (rows : Slots) (v : List ClosingOf) → lookup (is_app c.attempt.app) lists ≡ Some v → with_lists (with_closing lists c) rows ≡ closed_one (with_lists lists rows) c
 ending_here c [] rows v l = cc
-ending_here c (x ∷ lists) rows v l = by (is_app c.id.attempt.app x.0) refl (ending_here c lists rows v)
+ending_here c (x ∷ lists) rows v l = by (is_app c.attempt.app x.0) refl (ending_here c lists rows v)
   where
-    by : (b : Bool) → is_app c.id.attempt.app x.0 ≡ b → (lookup (is_app c.id.attempt.app) lists ≡ Some v → with_lists (with_closing lists c) rows ≡ closed_one (with_lists lists rows) c)
+    by : (b : Bool) → is_app c.attempt.app x.0 ≡ b → (lookup (is_app c.attempt.app) lists ≡ Some v → with_lists (with_closing lists c) rows ≡ closed_one (with_lists lists rows) c)
         → with_lists (with_closing (x ∷ lists) c) rows ≡ closed_one (with_lists (x ∷ lists) rows) c
     by true e rest =
-        let own = same_app c.id.attempt.app x.0 e in
+        let own = same_app c.attempt.app x.0 e in
         let join = changes_join (telling x.1) (closed c) x.0 (with_lists lists rows) in
         rw e (sym (ap (λ id. with_row (closed c) id (with_row (telling x.1) x.0 (with_lists lists rows))) own ∙ join))
     by false e rest =
         let l' = rw e at l in
-        rw e (ap (with_row (telling x.1) x.0) (rest l') ∙ sym (changes_pass (closed c) (telling x.1) c.id.attempt.app x.0 (with_lists lists rows) e))
+        rw e (ap (with_row (telling x.1) x.0) (rest l') ∙ sym (changes_pass (closed c) (telling x.1) c.attempt.app x.0 (with_lists lists rows) e))
 
 -- and of one that has none
-ending_past : (c : Closing) (lists : Lists) (rows : Slots) → lookup (is_app c.id.attempt.app) lists ≡ None → with_lists lists (closed_one rows c) ≡ closed_one (with_lists lists rows) c
+ending_past : (c : ClosingOf) (lists : Lists) (rows : Slots) → lookup (is_app c.attempt.app) lists ≡ None → with_lists lists (closed_one rows c) ≡ closed_one (with_lists lists rows) c
 ending_past c [] rows l = refl
-ending_past c (x ∷ lists) rows l = by (is_app c.id.attempt.app x.0) refl (ending_past c lists rows)
+ending_past c (x ∷ lists) rows l = by (is_app c.attempt.app x.0) refl (ending_past c lists rows)
   where
-    by : (b : Bool) → is_app c.id.attempt.app x.0 ≡ b → (lookup (is_app c.id.attempt.app) lists ≡ None → with_lists lists (closed_one rows c) ≡ closed_one (with_lists lists rows) c)
+    by : (b : Bool) → is_app c.attempt.app x.0 ≡ b → (lookup (is_app c.attempt.app) lists ≡ None → with_lists lists (closed_one rows c) ≡ closed_one (with_lists lists rows) c)
         → with_lists (x ∷ lists) (closed_one rows c) ≡ closed_one (with_lists (x ∷ lists) rows) c
     by true e rest = let l' = rw e at l in cc
     by false e rest =
         let l' = rw e at l in
-        ap (with_row (telling x.1) x.0) (rest l') ∙ sym (changes_pass (closed c) (telling x.1) c.id.attempt.app x.0 (with_lists lists rows) e)
+        ap (with_row (telling x.1) x.0) (rest l') ∙ sym (changes_pass (closed c) (telling x.1) c.attempt.app x.0 (with_lists lists rows) e)
 
 -- where an application has a list, its ending is the last there
-pub ending_found : (c : Closing) (v : List Closing) (lists : Lists) → lookup (is_app c.id.attempt.app) lists ≡ Some v → with_closing lists c ≡ set_value (is_app c.id.attempt.app) lists (v ++ c ∷ [])
+pub ending_found : (c : ClosingOf) (v : List ClosingOf) (lists : Lists) → lookup (is_app c.attempt.app) lists ≡ Some v → with_closing lists c ≡ set_value (is_app c.attempt.app) lists (v ++ c ∷ [])
 ending_found c v [] l = cc
-ending_found c v (x ∷ lists) l = by (is_app c.id.attempt.app x.0) refl (ending_found c v lists)
+ending_found c v (x ∷ lists) l = by (is_app c.attempt.app x.0) refl (ending_found c v lists)
   where
-    by : (b : Bool) → is_app c.id.attempt.app x.0 ≡ b → (lookup (is_app c.id.attempt.app) lists ≡ Some v → with_closing lists c ≡ set_value (is_app c.id.attempt.app) lists (v ++ c ∷ []))
-        → with_closing (x ∷ lists) c ≡ set_value (is_app c.id.attempt.app) (x ∷ lists) (v ++ c ∷ [])
+    by : (b : Bool) → is_app c.attempt.app x.0 ≡ b → (lookup (is_app c.attempt.app) lists ≡ Some v → with_closing lists c ≡ set_value (is_app c.attempt.app) lists (v ++ c ∷ []))
+        → with_closing (x ∷ lists) c ≡ set_value (is_app c.attempt.app) (x ∷ lists) (v ++ c ∷ [])
     by true e rest = let l' : x.1 ≡ v = (let m = rw e at l in cc) in rw e (ap (λ w. (x.0, w ++ c ∷ []) ∷ lists) l')
     by false e rest = let l' = rw e at l in rw e (ap (λ more. x ∷ more) (rest l'))
 
 -- where it has none, the lists stay
-pub ending_none : (c : Closing) (lists : Lists) → lookup (is_app c.id.attempt.app) lists ≡ None → with_closing lists c ≡ lists
+pub ending_none : (c : ClosingOf) (lists : Lists) → lookup (is_app c.attempt.app) lists ≡ None → with_closing lists c ≡ lists
 ending_none c [] l = refl
-ending_none c (x ∷ lists) l = by (is_app c.id.attempt.app x.0) refl (ending_none c lists)
+ending_none c (x ∷ lists) l = by (is_app c.attempt.app x.0) refl (ending_none c lists)
   where
-    by : (b : Bool) → is_app c.id.attempt.app x.0 ≡ b → (lookup (is_app c.id.attempt.app) lists ≡ None → with_closing lists c ≡ lists) → with_closing (x ∷ lists) c ≡ x ∷ lists
+    by : (b : Bool) → is_app c.attempt.app x.0 ≡ b → (lookup (is_app c.attempt.app) lists ≡ None → with_closing lists c ≡ lists) → with_closing (x ∷ lists) c ≡ x ∷ lists
     by true e rest = let l' = rw e at l in cc
     by false e rest = let l' = rw e at l in rw e (ap (λ more. x ∷ more) (rest l'))
 
 -- one more list at the end is set first
-pub lists_end : (lists : Lists) (rows : Slots) (id : AppId) (v : List Closing) → with_lists (lists ++ (id, v) ∷ []) rows ≡ with_lists lists (with_row (telling v) id rows)
+pub lists_end : (lists : Lists) (rows : Slots) (id : AppId) (v : List ClosingOf) → with_lists (lists ++ (id, v) ∷ []) rows ≡ with_lists lists (with_row (telling v) id rows)
 lists_end [] rows id v = refl
 lists_end (x ∷ lists) rows id v = ap (with_row (telling x.1) x.0) (lists_end lists rows id v)
 
-pub ending_there : (c : Closing) (lists : Lists) (rows : Slots) → has_list c.id.attempt.app lists ≡ true → with_lists (with_closing lists c) rows ≡ closed_one (with_lists lists rows) c
-ending_there c lists rows t = by (lookup (is_app c.id.attempt.app) lists) refl
+pub ending_there : (c : ClosingOf) (lists : Lists) (rows : Slots) → has_list c.attempt.app lists ≡ true → with_lists (with_closing lists c) rows ≡ closed_one (with_lists lists rows) c
+ending_there c lists rows t = by (lookup (is_app c.attempt.app) lists) refl
   where
-    by : (o : Option (List Closing)) → lookup (is_app c.id.attempt.app) lists ≡ o → with_lists (with_closing lists c) rows ≡ closed_one (with_lists lists rows) c
+    by : (o : Option (List ClosingOf)) → lookup (is_app c.attempt.app) lists ≡ o → with_lists (with_closing lists c) rows ≡ closed_one (with_lists lists rows) c
     by None e = let t' = rw e at t in cc
     by (Some v) e = ending_here c lists rows v e
 
 -- an ending of an application that the life doesn't know
-pub ending_unknown : (c : Closing) (lists : Lists) (rows : Slots) → lookup (is_app c.id.attempt.app) lists ≡ None → row_of rows c.id.attempt.app ≡ None → with_lists lists rows ≡ closed_one (with_lists lists rows) c
-ending_unknown c lists rows none l = ap (with_lists lists) (sym (unknown_stays (closed c) c.id.attempt.app rows l)) ∙ ending_past c lists rows none
+pub ending_unknown : (c : ClosingOf) (lists : Lists) (rows : Slots) → lookup (is_app c.attempt.app) lists ≡ None → row_of rows c.attempt.app ≡ None → with_lists lists rows ≡ closed_one (with_lists lists rows) c
+ending_unknown c lists rows none l = ap (with_lists lists) (sym (unknown_stays (closed c) c.attempt.app rows l)) ∙ ending_past c lists rows none
 
 -- and of one that gets its list now
-pub ending_first : (c : Closing) (lists new : Lists) (rows : Slots) (row : AppRow) → lookup (is_app c.id.attempt.app) lists ≡ None → row_of rows c.id.attempt.app ≡ Some row
-    → new ≡ lists ++ (c.id.attempt.app, row.closings ++ c ∷ []) ∷ [] → with_lists new rows ≡ closed_one (with_lists lists rows) c
+pub ending_first : (c : ClosingOf) (lists new : Lists) (rows : Slots) (row : AppRow) → lookup (is_app c.attempt.app) lists ≡ None → row_of rows c.attempt.app ≡ Some row
+    → new ≡ lists ++ (c.attempt.app, row.closings ++ c ∷ []) ∷ [] → with_lists new rows ≡ closed_one (with_lists lists rows) c
 ending_first c lists new rows row none found e =
-    let alike = changes_alike (telling (row.closings ++ c ∷ [])) (closed c) c.id.attempt.app rows row found refl in
-    ap (λ (l : Lists). with_lists l rows) e ∙ lists_end lists rows c.id.attempt.app (row.closings ++ c ∷ []) ∙ ap (with_lists lists) alike ∙ ending_past c lists rows none
+    let alike = changes_alike (telling (row.closings ++ c ∷ [])) (closed c) c.attempt.app rows row found refl in
+    ap (λ (l : Lists). with_lists l rows) e ∙ lists_end lists rows c.attempt.app (row.closings ++ c ∷ []) ∙ ap (with_lists lists) alike ∙ ending_past c lists rows none

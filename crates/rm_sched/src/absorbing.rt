@@ -5,31 +5,19 @@ ghost use Rattle.rm_types.specs.Order.{Ascend};
 ghost use Rattle.rm_types.specs.Resources.{Fits, difference_of};
 ghost use Rattle.rm_book.specs.Books.{AreOnce, book_row as book_row_of, total_on, book_with_taken};
 ghost use Rattle.rm_types.specs.Containers.{is_held};
-ghost use Rattle.rm_tables.specs.Absorbing.{absorbed_by, absorbed_with, absorption_step, booked_at, counted_in, is_elsewhere, capability_left, tables_may_take, book_not_taken, reported_in, taken_in, unlaunched_here, unlaunched_on, was_first, tables_with_counted};
+ghost use Rattle.rm_tables.specs.Absorbing.{absorbed_by, absorbed_with, absorption_step, booked_at, counted_in, is_elsewhere, capability_left, tables_may_take, book_not_taken, reported_in, taken_in, unlaunched_here, unlaunched_on, tables_with_counted};
 ghost use Rattle.rm_tables.specs.Nodes.{node_row};
-ghost use Rattle.rm_tables.specs.Rows.{row_of};
 ghost use Rattle.rm_tables.specs.SchedEvents.{EndsAbsorbed};
 
 use crate::asking::quiet;
 use crate::closing_lists::{closing_lists, set_lists};
-use crate::leaving::{closings_of, losts_of};
-use crate::records::is_current;
+use crate::leaving::{closings_of, losts_of, note_departing};
 use rm_book::Book;
 use rm_states::node::NodeState;
-use rm_tables::{NodeChange, NodeRow, Nodes, Rows, Tables};
+use rm_tables::{NodeChange, NodeRow, Nodes, Tables, is_pending, is_wanted, was_first};
 use rm_types::{
-    AttemptId, Boxed, Cause, ContainerId, Duplicate, Entry, Held, Items, NoMemory, Resource, Text,
+    Boxed, Cause, ContainerId, Duplicate, Entry, Held, Items, NoMemory, Resource, Text,
 };
-
-/// Whether an attempt was kept when the life began.
-fn was_first(rows: &Rows, id: AttemptId) -> bool
-    ensures { result ≡ was_first id (row_of rows.now id.app) }
-{
-    match rows.find(id.app) {
-        Some(row) => id.number > 0 && id.number as usize <= row.first,
-        None => false,
-    }
-}
 
 /// A container as it is reported at its node's first absorption in a life.
 fn reported(t: &Tables, held: Held) -> Option<Held>
@@ -110,8 +98,9 @@ fn less(left: Resource, size: Resource) -> Resource
 fn may_take(t: &Tables, name: &Text, capability: Resource, taken: &[Held], held: Held) -> bool
     ensures { result ≡ tables_may_take t.now name.now capability taken.now held }
 {
-    !is_held(taken, held.id)
-        && is_current(&t.tree, held.id.attempt)
+    !is_pending(t, held.id)
+        && !is_held(taken, held.id)
+        && is_wanted(&t.tree, held.id)
         && !is_elsewhere(&t.book, name, held.id)
         && held.size.fits(left_beside(capability, taken))
 }
@@ -177,9 +166,15 @@ fn take_in(
     let losts = losts_of(t.alloc, &t.tree, ended)?;
     let closings = closings_of(t.alloc, &t.tree, Cause::Gone, ended)?;
     let lists = closing_lists(t.alloc, &t.rows, closings.as_slice())?;
+    let noted = note_departing(t, ended)?;
     let posts = losts.as_slice();
-    t.book
-        .absorb(name, capability, taken, ended, &mut t.main, posts)?;
+    let done = t
+        .book
+        .absorb(name, capability, taken, ended, &mut t.main, posts);
+    if done.is_err() {
+        t.departed.truncate(noted);
+        return Err(NoMemory);
+    }
     set_lists(&mut t.rows, lists);
     unlaunch_on(&mut t.nodes, name, ended);
     t.nodes.change(name, NodeChange::Absorb);

@@ -8,22 +8,22 @@ ghost use Rattle.rm_sched.specs.ClosingLists.{has_list, with_closing, with_lists
 
 use indexmap::IndexMap;
 use rm_tables::Rows;
-use rm_types::{AppId, Closing, Items, NoMemory};
+use rm_types::{AppId, ClosingOf, Items, NoMemory};
 use std::alloc::Global;
 use std::marker::Model;
 
 /// Lists of endings, one for each application, found by its id without a walk.
 #[derive(Drop)]
 pub struct ClosingLists {
-    map: IndexMap<AppId, Items<Closing>>,
+    map: IndexMap<AppId, Items<ClosingOf>>,
 }
 
 impl Model for ClosingLists {
     ghost use Rattle.std.specs.Prelude.{List};
-    ghost use Rattle.rm_types.specs.declared.containers.Closing.{Closing};
+    ghost use Rattle.rm_types.specs.declared.containers.ClosingOf.{ClosingOf};
     ghost use Rattle.rm_types.specs.declared.ids.AppId.{AppId};
 
-    ghost Value = { List (AppId × List Closing) };
+    ghost Value = { List (AppId × List ClosingOf) };
 
     ghost view = { λ a. a.map.entries };
 }
@@ -39,11 +39,11 @@ impl ClosingLists {
     }
 
     /// One more ending, where there is a list of its application; says whether there is one.
-    fn add_ending(&mut self, closing: Closing) -> Result<bool, NoMemory>
-        ensures there { IfOk result (λ there. there ≡ has_list closing.id.attempt.app self.old) }
+    fn add_ending(&mut self, closing: ClosingOf) -> Result<bool, NoMemory>
+        ensures there { IfOk result (λ there. there ≡ has_list closing.attempt.app self.old) }
         ensures ok { OnOk result (self.new ≡ with_closing self.old closing) }
     {
-        match self.map.get_mut(&closing.id.attempt.app) {
+        match self.map.get_mut(&closing.attempt.app) {
             Some(list) => {
                 list.push(closing)?;
                 Ok(true)
@@ -53,7 +53,7 @@ impl ClosingLists {
     }
 
     /// Adds the list of an application that has none.
-    fn add(&mut self, id: AppId, list: Items<Closing>) -> Result<(), NoMemory>
+    fn add(&mut self, id: AppId, list: Items<ClosingOf>) -> Result<(), NoMemory>
         requires { lookup (is_app id) self.old ≡ None }
         ensures { OnOk result (self.new ≡ self.old ++ (id, list) ∷ []) }
     {
@@ -62,7 +62,7 @@ impl ClosingLists {
     }
 
     /// Takes the last list away.
-    fn pop(&mut self) -> Option<(AppId, Items<Closing>)>
+    fn pop(&mut self) -> Option<(AppId, Items<ClosingOf>)>
         ensures rest { self.old ≡ self.new ++ option_to_list result }
         ensures none { IfNone result (self.old ≡ []) }
     {
@@ -74,7 +74,7 @@ impl ClosingLists {
 pub fn closing_lists(
     alloc: Global,
     rows: &Rows,
-    closings: &[Closing],
+    closings: &[ClosingOf],
 ) -> Result<ClosingLists, NoMemory>
     ensures { IfOk result (λ lists. with_lists lists rows.now ≡ closed_in rows.now closings.now) }
 {
@@ -86,13 +86,13 @@ pub fn closing_lists(
 }
 
 /// One more ending, where the life knows its application.
-fn take_ending(rows: &Rows, lists: &mut ClosingLists, closing: Closing) -> Result<(), NoMemory>
+fn take_ending(rows: &Rows, lists: &mut ClosingLists, closing: ClosingOf) -> Result<(), NoMemory>
     ensures { OnOk result (with_lists lists.new rows.now ≡ closed_one (with_lists lists.old rows.now) closing) }
 {
     if lists.add_ending(closing)? {
         return Ok(());
     }
-    let id = closing.id.attempt.app;
+    let id = closing.attempt.app;
     let Some(row) = rows.find(id) else {
         return Ok(());
     };

@@ -1,13 +1,14 @@
 //! Containers leave the book.
-ghost use Rattle.std.specs.Prelude.{◌≡◌, IfOk, OnOk, OnErr};
-ghost use Rattle.rm_tables.specs.Leaving.{closings_of, left_all, losts_of, told_all, unlaunched, unlaunched_one};
+ghost use Rattle.std.specs.Prelude.{◌≡◌, IfOk, OnOk, OnErr, length};
+ghost use Rattle.rm_tables.specs.ContainerSets.{with_containers};
+ghost use Rattle.rm_tables.specs.Leaving.{closings_of, departing, left_all, losts_of, told_all, unlaunched, unlaunched_one};
 
 use crate::closing_lists::{closing_lists, set_lists};
 use crate::records::is_told;
 use rm_book::Book;
-use rm_tables::{MainEvent, NodeChange, Nodes, Tables, is_masters};
+use rm_tables::{MainEvent, NodeChange, Nodes, Tables, departing, heir, is_masters};
 use rm_tree::Tree;
-use rm_types::{Cause, Closing, ContainerId, Items, NoMemory};
+use rm_types::{Cause, Closing, ClosingOf, ContainerId, Items, NoMemory};
 use std::alloc::Global;
 
 /// What the manager is told of containers that leave: each that is a master's is lost.
@@ -33,16 +34,34 @@ pub fn closings_of(
     tree: &Tree,
     cause: Cause,
     ids: &[ContainerId],
-) -> Result<Items<Closing>, NoMemory>
+) -> Result<Items<ClosingOf>, NoMemory>
     ensures { IfOk result (λ closings. closings ≡ closings_of tree.now.apps cause ids.now) }
 {
     let mut closings = Items::new(alloc);
     'ids: for id in ids {
-        if is_told(tree, *id) {
-            closings.push(Closing { id: *id, cause })?;
+        if is_told(tree, *id)
+            && let Some(attempt) = heir(tree, id.attempt.app)
+        {
+            closings.push(ClosingOf {
+                attempt,
+                closing: Closing { id: *id, cause },
+            })?;
         }
     }
     Ok(closings)
+}
+
+/// Those of containers that leave are noted that are of former epochs, where the cluster recovers ended containers; says how many were
+/// noted before. `NoMemory` changes nothing.
+pub fn note_departing(t: &mut Tables, ids: &[ContainerId]) -> Result<usize, NoMemory>
+    ensures before { IfOk result (λ before. before ≡ length t.old.departed) }
+    ensures ok { OnOk result (t.new ≡ record t.old { departed = with_containers t.old.departed (departing t.old ids.now) }) }
+    ensures err { OnErr result (t.new ≡ t.old) }
+{
+    let before = t.departed.len();
+    let departing = departing(t, ids)?;
+    t.departed.join(departing.as_slice())?;
+    Ok(before)
 }
 
 /// The ends of containers are told: of masters' to the manager, and of others to their masters. `NoMemory` changes nothing.
@@ -53,7 +72,11 @@ pub fn tell_all(t: &mut Tables, cause: Cause, ids: &[ContainerId]) -> Result<(),
     let losts = losts_of(t.alloc, &t.tree, ids)?;
     let closings = closings_of(t.alloc, &t.tree, cause, ids)?;
     let lists = closing_lists(t.alloc, &t.rows, closings.as_slice())?;
-    t.main.push_all(losts.as_slice())?;
+    let noted = note_departing(t, ids)?;
+    if t.main.push_all(losts.as_slice()).is_err() {
+        t.departed.truncate(noted);
+        return Err(NoMemory);
+    }
     set_lists(&mut t.rows, lists);
     Ok(())
 }

@@ -3,3 +3,5 @@ pub mod Inserted
 pub mod Placed
 pub mod Stays
 pub mod Once
+pub mod Kept
+pub mod ContainerSets

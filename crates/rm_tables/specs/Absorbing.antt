@@ -1,6 +1,6 @@
 -- NodeAdded: the report of a node that registered is absorbed. Which of the reported containers are taken, and that a manager
 -- rebuilds its containers from such reports, is told by the judge; here it is read off the tables.
-use Rattle.std.specs.Prelude.{ℕ, List, [], Bool, true, false, not, ◌&&◌, nat_lt, nat_le, ◌==◌, Option, None, Some, is_some, is_none, filter, fold, map, ◌++◌, ◌∷◌, if◌then◌else◌}
+use Rattle.std.specs.Prelude.{ℕ, List, [], Bool, true, false, not, ◌&&◌, nat_lt, nat_le, ◌==◌, Option, None, Some, is_some, filter, fold, map, ◌++◌, ◌∷◌, if◌then◌else◌}
 use Rattle.std.specs.Str.{bytes_eq}
 use Rattle.rm_types.specs.declared.containers.BookRow.{BookRow}
 use Rattle.rm_types.specs.declared.containers.Cause.TheVariants.{Gone}
@@ -9,21 +9,18 @@ use Rattle.rm_types.specs.declared.entries.Entry.{Entry}
 use Rattle.rm_types.specs.declared.entries.Entry.TheVariants.{Absorbed}
 use Rattle.rm_types.specs.declared.ids.AttemptId.{AttemptId}
 use Rattle.rm_types.specs.declared.ids.ContainerId.{ContainerId}
-use Rattle.rm_types.specs.declared.records.AppRecord.{AppRecord}
 use Rattle.rm_types.specs.declared.resources.Resource.{Resource}
-use Rattle.rm_types.specs.Ids.{is_attempt}
 use Rattle.rm_types.specs.Passes.{total_of}
-use Rattle.rm_types.specs.Records.{is_some_and, last_attempt, record_of}
 use Rattle.rm_types.specs.Resources.{difference_of, fits}
 use Rattle.rm_book.specs.Books.{BookOf, capability_of, node_containers, book_row as book_row_of, book_with_taken}
 use Rattle.rm_types.specs.Containers.{is_held}
-use Rattle.rm_model.specs.Facts.{attempts_in}
+use Rattle.rm_model.specs.Facts.{has_container}
 use Rattle.rm_tables.specs.declared.nodes.NodeChange.TheVariants.{Absorb, Unlaunch}
 use Rattle.rm_tables.specs.declared.nodes.NodeRow.{NodeRow}
 use Rattle.rm_tables.specs.declared.rows.AppRow.{AppRow}
 use Rattle.rm_tables.specs.declared.tables.Tables.{Tables}
 use Rattle.rm_tables.specs.Actions.{sched_quiet}
-use Rattle.rm_tables.specs.Leaving.{told_all}
+use Rattle.rm_tables.specs.Leaving.{is_wanted_in, told_all}
 use Rattle.rm_tables.specs.Nodes.{changed_row, is_waiting_row, with_node}
 use Rattle.rm_tables.specs.Rows.{row_of}
 
@@ -31,10 +28,6 @@ use Rattle.rm_tables.specs.Rows.{row_of}
 abbrev pub was_first : AttemptId → Option AppRow → Bool
 was_first id None = false
 was_first id (Some row) = nat_lt 0 id.number && nat_le id.number row.first
-
--- an attempt is its application's last kept one and has no kept end
-abbrev pub is_current_in : List AppRecord → AttemptId → Bool
-is_current_in apps id = is_some_and (λ last. is_attempt last.id id && is_none last.ending) (last_attempt (attempts_in (record_of apps id.app)))
 
 -- a container that is reported at its node's first absorption in a life
 abbrev pub reported_in : Tables → Held → Option Held
@@ -58,13 +51,18 @@ is_elsewhere name (Some row) = not (bytes_eq row.node name)
 abbrev pub capability_left : Resource → List Held → Resource
 capability_left capability taken = difference_of capability (total_of (map (λ held. held.size) taken))
 
+-- a container is pending where the cluster recovers ended containers and it was released in this life while it was missing
+abbrev pub is_pending_in : Tables → ContainerId → Bool
+is_pending_in t id = t.settings.recover_ended_containers && has_container t.pending id
+
 -- a container that counts may be taken
 abbrev pub tables_may_take : Tables → List ℕ → Resource → List Held → Held → Bool
 tables_may_take t name capability taken held =
-    not (is_held taken held.id)
-    && (is_current_in t.tree.apps held.id.attempt
+    not (is_pending_in t held.id)
+    && (not (is_held taken held.id)
+    && (is_wanted_in t.tree.apps held.id
     && (not (is_elsewhere name (book_row_of t.book held.id))
-    && fits held.size (capability_left capability taken)))
+    && fits held.size (capability_left capability taken))))
 
 -- what was taken so far and, where it counts and may be taken, one more
 abbrev pub tables_with_counted : Tables → List ℕ → Resource → List Held → Option Held → List Held

@@ -1,12 +1,13 @@
 -- What is done once the operation that is with the store is kept: it is recorded, the row of its application changes, and what
 -- follows from it is posted. This project's own.
-use Rattle.std.specs.Prelude.{◌-◌, List, [], ◌∷◌, ◌++◌, true, false, Option, None, Some, drop}
+use Rattle.std.specs.Prelude.{◌-◌, List, [], ◌∷◌, ◌++◌, Bool, true, false, Option, None, Some, drop}
 use Rattle.rm_types.specs.declared.ids.AppId.{AppId}
 use Rattle.rm_types.specs.declared.ids.AttemptId.{AttemptId}
 use Rattle.rm_types.specs.declared.operations.How.{How}
 use Rattle.rm_types.specs.declared.operations.Op.{Op}
 use Rattle.rm_types.specs.declared.operations.Op.TheVariants as ops
 use Rattle.rm_types.specs.Records.{recorded}
+use Rattle.rm_model.specs.Facts.{keeps}
 use Rattle.rm_book.specs.AskTables.{without_asks_of}
 use Rattle.rm_states.specs.declared.attempt.states.AttemptState.{AttemptState}
 use Rattle.rm_states.specs.declared.attempt.states.AttemptState.TheVariants as attempts
@@ -18,6 +19,7 @@ use Rattle.rm_tables.specs.declared.events.SchedEvent.TheVariants as scheds
 use Rattle.rm_tables.specs.declared.rows.AppRow.{AppRow}
 use Rattle.rm_tables.specs.declared.rows.Current.{Current}
 use Rattle.rm_tables.specs.declared.tables.Tables.{Tables}
+use Rattle.rm_tables.specs.Actions.{found_in}
 use Rattle.rm_tables.specs.Changes.{changed}
 use Rattle.rm_tables.specs.Opening.{opening_main, opening_sched}
 use Rattle.rm_tables.specs.Rows.{row_of, with_row, without_row}
@@ -51,25 +53,31 @@ attempt_end_kept id how t =
       asks = without_asks_of id t.asks;
     }
 
--- the attempt of an application that ends, where it was dropped
-abbrev pub dropped_at : AttemptState → AttemptId → List SchedEvent
-dropped_at attempts.Dropped id = scheds.AttemptRemoved id ∷ []
-dropped_at _ id = []
+-- the attempt of an application that ends, where it has containers still: it was dropped, or it has ended and left some over
+abbrev pub removed_if : Bool → AttemptId → List SchedEvent
+removed_if true id = scheds.AttemptRemoved id ∷ []
+removed_if false id = []
 
--- the current attempt of an application that ends, where it was dropped
-abbrev pub dropped_of : Option Current → AppId → List SchedEvent
-dropped_of None id = []
-dropped_of (Some current) id = dropped_at current.state (record { app = id; number = current.number })
+-- the attempt of an application that ends, by its state
+abbrev pub removed_at : AttemptState → Bool → AttemptId → List SchedEvent
+removed_at attempts.Dropped keep id = removed_if true id
+removed_at attempts.Ended keep id = removed_if keep id
+removed_at _ keep id = []
 
--- the attempt of a row whose application ends, where it was dropped
-abbrev pub dropped_by : Option AppRow → AppId → List SchedEvent
-dropped_by None id = []
-dropped_by (Some row) id = dropped_of row.current id
+-- the current attempt of an application that ends, where it has containers still
+abbrev pub removed_of : Option Current → Bool → AppId → List SchedEvent
+removed_of None keep id = []
+removed_of (Some current) keep id = removed_at current.state keep (record { app = id; number = current.number })
 
--- AppEnd: it is completed; the scheduler is to end the containers of an attempt that was dropped
+-- the attempt of a row whose application ends, where it has containers still
+abbrev pub removed_by : Option AppRow → Bool → AppId → List SchedEvent
+removed_by None keep id = []
+removed_by (Some row) keep id = removed_of row.current keep id
+
+-- AppEnd: it is completed; the scheduler is to end the containers that no attempt has any more
 abbrev pub app_end_posted : AppId → Tables → Tables
 app_end_posted id t =
-    record t { ended = t.ended ++ id ∷ []; main = t.main ++ mains.Retire ∷ []; sched = t.sched ++ dropped_by (row_of t.rows id) id }
+    record t { ended = t.ended ++ id ∷ []; main = t.main ++ mains.Retire ∷ []; sched = t.sched ++ removed_by (row_of t.rows id) (keeps (found_in t id)) id }
 
 -- the tables once an AppEnd is kept: one application fewer goes on
 abbrev pub app_end_kept : AppId → How → Tables → Tables

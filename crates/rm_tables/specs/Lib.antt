@@ -6,6 +6,9 @@ pub mod Actions
 pub mod MainEvents
 pub mod Leaving
 pub mod Absorbing
+pub mod ContainerSets
+pub mod Missing
+pub mod LateRows
 pub mod Passing
 pub mod SchedEvents
 pub mod KeptOps

@@ -1,6 +1,6 @@
 -- The tables of a life that begins over recorded applications, and with which events it opens. That a manager recovers its
 -- applications and their attempts from its store is after YARN's page on ResourceManager Restart; the events are this project's own.
-use Rattle.std.specs.Prelude.{ℕ, List, [], ◌∷◌, ◌++◌, false, Option, None, Some, is_some, is_none, option_map, map, count_by, length, if◌then◌else◌}
+use Rattle.std.specs.Prelude.{ℕ, List, [], ◌∷◌, ◌++◌, Bool, false, ◌&&◌, not, Option, None, Some, is_some, is_none, option_map, map, count_by, length, if◌then◌else◌}
 use Rattle.std.specs.List.{flat_map}
 use Rattle.rm_types.specs.declared.ids.AppId.{AppId}
 use Rattle.rm_types.specs.declared.operations.How.{How}
@@ -68,15 +68,15 @@ main_by None (Some last) id = if is_some last.ending then mains.AttemptDone (rec
 abbrev pub main_of : AppRecord → List MainEvent
 main_of one = main_by one.ending (last_attempt one.attempts) one.id
 
--- the scheduler's: its last attempt lives
-abbrev pub sched_by : Option (How × List ℕ) → Option AttemptRecord → AppId → List SchedEvent
-sched_by (Some end) last id = []
-sched_by None None id = []
-sched_by None (Some last) id = if is_some last.ending then [] else scheds.AttemptRecovered (record { app = id; number = last.id.number }) ∷ []
+-- the scheduler's: its last attempt lives, or the application keeps what that one left
+abbrev pub sched_by : Option (How × List ℕ) → Option AttemptRecord → Bool → AppId → List SchedEvent
+sched_by (Some end) last keep id = []
+sched_by None None keep id = []
+sched_by None (Some last) keep id = if is_some last.ending && not keep then [] else scheds.AttemptRecovered (record { app = id; number = last.id.number }) ∷ []
 
 -- the scheduler's event of a recorded application
 abbrev pub sched_of : AppRecord → List SchedEvent
-sched_of one = sched_by one.ending (last_attempt one.attempts) one.id
+sched_of one = sched_by one.ending (last_attempt one.attempts) one.submission.keep one.id
 
 -- with which events a life opens
 abbrev pub opening_main : List AppRecord → List MainEvent

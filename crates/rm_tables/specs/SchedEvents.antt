@@ -1,6 +1,6 @@
 -- What each event of the scheduler's queue does: the entry that it logs, and the tables after it. It is still the first of its queue, and
 -- is taken when it is done. After the scheduler of YARN's ResourceManager; the events and their rows are this project's own.
-use Rattle.std.specs.Prelude.{◌≡◌, ℕ, List, [], ◌∷◌, ◌++◌, Bool, true, false, not, ◌&&◌, ◌==◌, Option, None, Some, filter}
+use Rattle.std.specs.Prelude.{◌≡◌, ℕ, List, [], ◌∷◌, ◌++◌, Bool, true, false, not, ◌&&◌, ◌||◌, ◌==◌, Option, None, Some, filter, map}
 use Rattle.std.specs.Str.{bytes_eq}
 use Rattle.rm_types.specs.declared.containers.BookRow.{BookRow}
 use Rattle.rm_types.specs.declared.containers.Cause.TheVariants as causes
@@ -11,10 +11,10 @@ use Rattle.rm_types.specs.declared.ids.AttemptId.{AttemptId}
 use Rattle.rm_types.specs.declared.ids.ContainerId.{ContainerId}
 use Rattle.rm_types.specs.declared.messages.Lane.TheVariants as lanes
 use Rattle.rm_types.specs.declared.records.AppRecord.{AppRecord}
-use Rattle.rm_types.specs.Ids.{is_attempt}
+use Rattle.rm_types.specs.Ids.{is_app, is_attempt}
 use Rattle.rm_types.specs.Order.{Ascend}
 use Rattle.rm_book.specs.AskTables.{AsksOf, attempt_asks, asks_set, with_asks_of}
-use Rattle.rm_book.specs.Books.{has_row, attempt_containers, node_containers, book_row as book_row_of}
+use Rattle.rm_book.specs.Books.{BookOf, has_row, node_containers, book_row as book_row_of}
 use Rattle.rm_model.specs.Containers.{once}
 use Rattle.rm_states.specs.declared.attempt.states.AttemptState.{AttemptState}
 use Rattle.rm_states.specs.declared.attempt.states.AttemptState.TheVariants as attempts
@@ -27,7 +27,8 @@ use Rattle.rm_tables.specs.declared.rows.Current.{Current}
 use Rattle.rm_tables.specs.declared.tables.Tables.{Tables}
 use Rattle.rm_tables.specs.Absorbing.{absorbed_by, book_not_taken, taken_in}
 use Rattle.rm_tables.specs.Actions.{found_in, sched_quiet}
-use Rattle.rm_tables.specs.Leaving.{ended_by, is_masters_in}
+use Rattle.rm_tables.specs.Leaving.{ended_by, is_masters_in, is_stale_in}
+use Rattle.rm_tables.specs.Missing.{is_astray_in, is_at_disposal_in}
 use Rattle.rm_tables.specs.Nodes.{is_waiting_row, node_row}
 use Rattle.rm_tables.specs.Passing.{updated_by}
 use Rattle.rm_tables.specs.Rows.{row_of}
@@ -62,21 +63,28 @@ abbrev pub is_on : List ℕ → Option BookRow → Bool
 is_on name None = false
 is_on name (Some row) = bytes_eq row.node name
 
--- Release: the containers that a master released end which live, are of its attempt and are no master's, in the order of its list, each
--- once
+-- Release: the containers that a master released end which live, are at its attempt's disposal and are no master's, in the order of its
+-- list, each once
 abbrev pub is_released : AttemptId → Tables → ContainerId → Bool
-is_released attempt t id = has_row t.book id && (is_attempt id.attempt attempt && not (is_masters_in t.tree.apps id))
+is_released attempt t id = has_row t.book id && (is_at_disposal_in t.tree.apps attempt id && not (is_masters_in t.tree.apps id))
 
 -- Release: those end of the list that the attempt may release, each once
 abbrev pub release_step : AttemptId → List ContainerId → Tables → Entry × Tables
 release_step attempt list t = ended_by causes.Released (once (filter (is_released attempt t) list)) t
 
--- NodeDone: the containers that a node reported as done end which live on it, in the order of its list, each once
-abbrev pub done_by : List ℕ → List ContainerId → Tables → Entry × Tables
-done_by name list t = ended_by causes.Done (once (filter (λ id. is_on name (book_row_of t.book id)) list)) t
+-- a container that a node reported as done ends where it is astray or lives on the node
+abbrev pub ends_as_done : List ℕ → Tables → ContainerId → Bool
+ends_as_done name t id = is_astray_in t id || is_on name (book_row_of t.book id)
 
--- which containers end by an event whose list is in ascending order: those of an attempt that is over, those that stand on a node that is
--- lost, and those that stand on a node that is absorbed and aren't taken
+-- NodeDone: those that a node reported as done and that end, in the order of its list, each once
+abbrev pub done_by : List ℕ → List ContainerId → Tables → Entry × Tables
+done_by name list t = ended_by causes.Done (once (filter (ends_as_done name t) list)) t
+
+-- the containers of an application that live and are stale, in the order of entering
+abbrev pub stale_in : BookOf → List AppRecord → AppId → List ContainerId
+stale_in book apps id = map (λ row. row.id) (filter (λ row. is_app row.id.attempt.app id && is_stale_in apps row.id) book.rows)
+
+-- which containers end where a node is absorbed, which is in ascending order: those that stand on it and aren't taken
 abbrev pub EndsIf : Bool → List ℕ → NodeRow → Tables → List ContainerId → Type 0
 EndsIf true name row t list = Ascend (book_not_taken t.book name (taken_in t name row)) list
 EndsIf false name row t list = Unit {0}
@@ -86,15 +94,15 @@ abbrev pub EndsAbsorbed : Option NodeRow → List ℕ → ℕ → Tables → Lis
 EndsAbsorbed None name turn t list = Unit {0}
 EndsAbsorbed (Some row) name turn t list = EndsIf (is_waiting_row row.state && (row.turn == turn)) name row t list
 
--- which containers end by an event: those of an attempt that is over, or on a node that is lost or is absorbed
+-- which containers end by an event: those of an application that are stale, or on a node that is lost or is absorbed
 abbrev pub EndsByEvent : SchedEvent → Tables → List ContainerId → Type 0
-EndsByEvent (scheds.AttemptRemoved id) t list = Ascend (attempt_containers t.book id) list
+EndsByEvent (scheds.AttemptRemoved id) t list = Ascend (stale_in t.book t.tree.apps id.app) list
 EndsByEvent (scheds.NodeLost node) t list = Ascend (node_containers t.book node) list
 EndsByEvent (scheds.NodeAdded node turn) t list = EndsAbsorbed (node_row t.nodes node) node turn t list
 EndsByEvent _ t list = Unit {0}
 
--- what an event of the scheduler's queue logs, and the tables after it, where these containers end. An attempt that lives needs nothing
--- when it is recovered
+-- what an event of the scheduler's queue logs, and the tables after it, where these containers end. An attempt needs nothing when it is
+-- recovered
 abbrev pub sched_step : SchedEvent → List ContainerId → Tables → Entry × Tables
 sched_step (scheds.AppAdded id) list t = added_by id t
 sched_step (scheds.AttemptRecovered id) list t = sched_quiet t

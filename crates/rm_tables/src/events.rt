@@ -39,11 +39,11 @@ pub enum MainEvent {
 pub enum SchedEvent {
     /// An application was saved.
     AppAdded(AppId),
-    /// An attempt that lives was recovered.
+    /// An attempt that lives was recovered, or one that ended, of an application that keeps what it left.
     AttemptRecovered(AttemptId),
     /// An attempt was scheduled: it is to ask for its master's container.
     AttemptAdded(AttemptId),
-    /// An attempt is over: what it has in the book is to end.
+    /// An attempt or its application has ended: what is stale of the application is to end.
     AttemptRemoved(AttemptId),
     /// A master released containers.
     Release {

@@ -7,11 +7,14 @@ ghost use Rattle.rm_types.specs.declared.operations.Submission.{Submission};
 ghost use Rattle.rm_types.specs.Records.{fits_records, recorded};
 ghost use Rattle.rm_tables.specs.declared.events.MainEvent.{MainEvent as Told};
 ghost use Rattle.rm_tables.specs.declared.events.SchedEvent.{SchedEvent as Removal};
-ghost use Rattle.rm_tables.specs.KeptOps.{app_end_posted, dropped_by, taken_up, kept};
+ghost use Rattle.rm_tables.specs.KeptOps.{app_end_posted, removed_by, taken_up, kept};
+ghost use Rattle.rm_tables.specs.Actions.{found_in};
+ghost use Rattle.rm_model.specs.Facts.{keeps};
 
 use crate::changes::{AttemptChange, RowChange};
 use crate::events::{MainEvent, Refused, SchedEvent};
 use crate::opening::{opening_main, opening_sched};
+use crate::recorded::keeps;
 use crate::tables::Tables;
 use rm_states::attempt::AttemptState;
 use rm_tree::{Tree, TreeError};
@@ -176,13 +179,15 @@ fn keep_remove(t: &mut Tables, id: AppId) -> Result<Entry, NoMemory>
     Ok(entry)
 }
 
-/// The attempt of an application that ends, where it was dropped.
-fn dropped_attempt(t: &Tables, id: AppId) -> Option<AttemptId>
-    ensures some { IfSome result (λ attempt. dropped_by (row_of t.now.rows id) id ≡ Removal.AttemptRemoved attempt ∷ []) }
-    ensures none { IfNone result (dropped_by (row_of t.now.rows id) id ≡ []) }
+/// The attempt of an application that ends, where it has containers still: it was dropped, or it has ended and left some over.
+fn removed_attempt(t: &Tables, id: AppId) -> Option<AttemptId>
+    ensures some { IfSome result (λ attempt. removed_by (row_of t.now.rows id) (keeps (found_in t.now id)) id ≡ Removal.AttemptRemoved attempt ∷ []) }
+    ensures none { IfNone result (removed_by (row_of t.now.rows id) (keeps (found_in t.now id)) id ≡ []) }
 {
     let current = t.rows.find(id)?.current?;
-    if current.state == AttemptState::Dropped {
+    if current.state == AttemptState::Dropped
+        || (current.state == AttemptState::Ended && keeps(&t.tree, id))
+    {
         Some(AttemptId {
             app: id,
             number: current.number,
@@ -192,13 +197,13 @@ fn dropped_attempt(t: &Tables, id: AppId) -> Option<AttemptId>
     }
 }
 
-/// It is taken up as the end of an application, which is to be retired, and whose attempt is to be removed where it was dropped.
+/// It is taken up as the end of an application, which is to be retired, and whose attempt is to be removed where it has containers still.
 fn take_up_retiring(t: &mut Tables, id: AppId) -> Result<(), NoMemory>
     requires fits { (op : Op) (rest : List Op) → t.old.awaiting ≡ op ∷ rest → fits_records t.old.tree op ≡ true }
-    ensures ok { (op : Op) (rest : List Op) → t.old.awaiting ≡ op ∷ rest → OnOk result (t.new ≡ taken_up op (record t.old { main = t.old.main ++ Told.Retire ∷ []; sched = t.old.sched ++ dropped_by (row_of t.old.rows id) id })) }
+    ensures ok { (op : Op) (rest : List Op) → t.old.awaiting ≡ op ∷ rest → OnOk result (t.new ≡ taken_up op (record t.old { main = t.old.main ++ Told.Retire ∷ []; sched = t.old.sched ++ removed_by (row_of t.old.rows id) (keeps (found_in t.old id)) id })) }
     ensures err { OnErr result (t.new ≡ t.old) }
 {
-    match dropped_attempt(t, id) {
+    match removed_attempt(t, id) {
         Some(attempt) => take_up_removing(t, MainEvent::Retire, attempt),
         None => take_up_with(t, MainEvent::Retire),
     }
@@ -216,7 +221,7 @@ fn take_up_app_end(t: &mut Tables, id: AppId) -> Result<(), NoMemory>
         |t: &mut Tables| -> Result<AppId, NoMemory>
             requires fits { (op : Op) (rest : List Op) → t.old.awaiting ≡ op ∷ rest → fits_records t.old.tree op ≡ true }
             ensures id { IfOk result (λ made. made ≡ id) }
-            ensures ok { (op : Op) (rest : List Op) → t.old.awaiting ≡ op ∷ rest → OnOk result (t.new ≡ taken_up op (record t.old { main = t.old.main ++ Told.Retire ∷ []; sched = t.old.sched ++ dropped_by (row_of t.old.rows id) id })) }
+            ensures ok { (op : Op) (rest : List Op) → t.old.awaiting ≡ op ∷ rest → OnOk result (t.new ≡ taken_up op (record t.old { main = t.old.main ++ Told.Retire ∷ []; sched = t.old.sched ++ removed_by (row_of t.old.rows id) (keeps (found_in t.old id)) id })) }
             ensures err { OnErr result (t.new ≡ t.old) }
         {
             take_up_retiring(t, id)?;

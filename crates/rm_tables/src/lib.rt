@@ -15,9 +15,11 @@
 
 mod changes;
 mod completed;
+mod container_set;
 mod events;
 mod keeping;
 mod lives;
+mod missing;
 mod nodes;
 mod opening;
 mod recorded;
@@ -26,10 +28,14 @@ mod tables;
 mod talks;
 
 pub use changes::{AttemptChange, RowChange};
+pub use container_set::ContainerSet;
 pub use events::{MainEvent, Refused, SchedEvent};
+pub use missing::{
+    astray_released, departing, is_astray, is_at_disposal, is_earlier, is_pending, was_first,
+};
 pub use nodes::{NodeChange, NodeRow, Nodes, Registration};
 pub use opening::last_attempt;
-pub use recorded::{attempt_in, is_masters};
+pub use recorded::{attempt_in, heir, is_masters, is_stale, is_wanted, keeps};
 pub use rows::{AppRow, Current, Dialogue, Rows};
 pub use tables::Tables;
 pub use talks::Talk;

@@ -2,6 +2,7 @@ ghost use Rattle.std.specs.Prelude.{◌≡◌, OnOk, OnErr};
 ghost use Rattle.rm_tables.specs.Lives.{no_life, cleared, begun, tables_gone_down, handed_out, refused, is_ready_lane, may_go_down};
 
 use crate::completed::ended_in;
+use crate::container_set::ContainerSet;
 use crate::events::MainEvent;
 use crate::nodes::Nodes;
 use crate::opening::{going_in, recovered_rows};
@@ -37,6 +38,8 @@ impl Tables {
             waits: false,
             asks: Asks::new(alloc),
             book: Book::new(alloc),
+            departed: ContainerSet::new(alloc),
+            pending: ContainerSet::new(alloc),
             nodes: Nodes::new(alloc),
             main: Queue::new(alloc),
             sched: Queue::new(alloc),
@@ -93,6 +96,8 @@ impl Tables {
         self.waits = false;
         self.asks = Asks::new(self.alloc);
         self.book = Book::new(self.alloc);
+        self.departed = ContainerSet::new(self.alloc);
+        self.pending = ContainerSet::new(self.alloc);
         self.nodes = Nodes::new(self.alloc);
         self.main = Queue::new(self.alloc);
         self.sched = Queue::new(self.alloc);

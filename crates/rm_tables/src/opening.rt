@@ -127,7 +127,7 @@ fn push_sched(queue: &mut Queue<SchedEvent>, app: &AppRecord) -> Result<(), NoMe
     match last_attempt(app) {
         None => Ok(()),
         Some(last) => {
-            if last.ending.is_some() {
+            if last.ending.is_some() && !app.submission.keep {
                 Ok(())
             } else {
                 queue.push(SchedEvent::AttemptRecovered(AttemptId {

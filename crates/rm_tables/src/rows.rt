@@ -11,7 +11,7 @@ use indexmap::IndexMap;
 use rm_states::app::AppState;
 use rm_states::attempt::AttemptState;
 use rm_types::{
-    AppId, Boxed, Closing, ContainerId, Duplicate, Items, NoMemory, Reply, Submission, Text,
+    AppId, Boxed, ClosingOf, ContainerId, Duplicate, Items, NoMemory, Reply, Submission, Text,
 };
 use std::alloc::Global;
 use std::marker::Model;
@@ -39,6 +39,8 @@ pub struct Dialogue {
     /// The last response id that it was answered, and what it was answered then.
     pub last_id: u32,
     pub last_reply: Boxed<Reply>,
+    /// How many containers had ever entered the book when it was last told of those that it has.
+    pub told: u64,
     /// What it said when it finished, once it did.
     pub finishing: Option<Text>,
 }
@@ -56,13 +58,13 @@ pub struct AppRow {
     pub first: usize,
     /// The dialogue with the master of its current attempt.
     pub dialogue: Option<Dialogue>,
-    /// The endings of its attempts' containers that their masters were not told yet.
-    pub closings: Items<Closing>,
+    /// The endings of its attempts' containers that masters were not told yet, each with the attempt that is to be told.
+    pub closings: Items<ClosingOf>,
 }
 
 impl AppRow {
     /// What its masters are to be told, and one more ending.
-    pub fn with_closing(&self, closing: Closing) -> Result<Items<Closing>, NoMemory>
+    pub fn with_closing(&self, closing: ClosingOf) -> Result<Items<ClosingOf>, NoMemory>
         ensures { IfOk result (λ closings. closings ≡ self.now.closings ++ closing ∷ []) }
     {
         let mut closings = self.closings.copy()?;
@@ -154,7 +156,7 @@ impl Rows {
     }
 
     /// What masters of an application's attempts are to be told is this, where the life knows the application. It takes no memory.
-    pub fn set_closings(&mut self, id: AppId, closings: Items<Closing>)
+    pub fn set_closings(&mut self, id: AppId, closings: Items<ClosingOf>)
         ensures { self.new ≡ with_row (telling closings) id self.old }
     {
         if let Some(slot) = self.map.get_mut(&id) {
@@ -198,7 +200,7 @@ fn talk_slot(slot: &mut Option<AppRow>, talk: Talk)
     }
 }
 
-fn set_slot(slot: &mut Option<AppRow>, closings: Items<Closing>)
+fn set_slot(slot: &mut Option<AppRow>, closings: Items<ClosingOf>)
     ensures { slot.new ≡ option_map (telling closings) slot.old }
 {
     if let Some(row) = slot {

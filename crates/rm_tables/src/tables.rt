@@ -1,3 +1,4 @@
+use crate::container_set::ContainerSet;
 use crate::events::{MainEvent, SchedEvent};
 use crate::nodes::Nodes;
 use crate::rows::Rows;
@@ -44,6 +45,10 @@ pub struct Tables {
     pub asks: Asks,
     /// The living containers.
     pub book: Book,
+    /// Where the cluster recovers ended containers: those of former epochs that left the book in this life.
+    pub departed: ContainerSet,
+    /// Where it does: those that masters released in this life while they were missing.
+    pub pending: ContainerSet,
     /// The nodes that registered in this life.
     pub nodes: Nodes,
     pub main: Queue<MainEvent>,

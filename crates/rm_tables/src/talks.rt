@@ -5,24 +5,27 @@ ghost use Rattle.rm_tables.specs.Talks.{said_row, talked, told_row, with_answer,
 
 use crate::changes::{AttemptChange, RowChange};
 use crate::rows::{AppRow, Dialogue};
-use rm_types::{AttemptId, Boxed, Closing, Reply, Text};
+use rm_types::{AttemptId, Boxed, ClosingOf, Reply, Text};
 
 /// What is said between the manager and the master of an application's current attempt.
 #[derive(Drop)]
 pub enum Talk {
-    /// It registered, and is answered so.
+    /// It registered, and is answered so, when so many containers had ever entered the book.
     Register {
         reply: Boxed<Reply>,
+        told: u64,
     },
     /// It finishes, and says this.
     Finish {
         text: Text,
     },
-    /// It allocated, and is answered so under a response id; with that it is told of its attempt's endings.
+    /// It allocated, and is answered so under a response id, when so many containers had ever entered the book; with that it is told of
+    /// the endings.
     Answer {
         attempt: AttemptId,
         id: u32,
         reply: Boxed<Reply>,
+        told: u64,
     },
 }
 
@@ -34,12 +37,13 @@ fn put_text(dialogue: &mut Option<Dialogue>, text: Text)
     }
 }
 
-fn put_answer(dialogue: &mut Option<Dialogue>, id: u32, reply: Boxed<Reply>)
-    ensures { dialogue.new ≡ with_answer id reply dialogue.old }
+fn put_answer(dialogue: &mut Option<Dialogue>, id: u32, reply: Boxed<Reply>, told: u64)
+    ensures { dialogue.new ≡ with_answer id reply told dialogue.old }
 {
     if let Some(one) = dialogue {
         one.last_id = id;
         one.last_reply = reply;
+        one.told = told;
     }
 }
 
@@ -49,16 +53,22 @@ impl AppRow {
         ensures { self.new ≡ talked talk self.old }
     {
         match talk {
-            Talk::Register { reply } => {
+            Talk::Register { reply, told } => {
                 self.change(RowChange::Register);
                 self.dialogue = Some(Dialogue {
                     last_id: 0,
                     last_reply: reply,
+                    told,
                     finishing: None,
                 });
             }
             Talk::Finish { text } => self.finish(text),
-            Talk::Answer { attempt, id, reply } => self.answer(attempt, id, reply),
+            Talk::Answer {
+                attempt,
+                id,
+                reply,
+                told,
+            } => self.answer(attempt, id, reply, told),
         }
     }
 
@@ -71,14 +81,14 @@ impl AppRow {
         put_text(&mut self.dialogue, text);
     }
 
-    fn answer(&mut self, attempt: AttemptId, id: u32, reply: Boxed<Reply>)
-        ensures { self.new ≡ told_row (with_answer id reply) (without_closings attempt) self.old }
+    fn answer(&mut self, attempt: AttemptId, id: u32, reply: Boxed<Reply>, told: u64)
+        ensures { self.new ≡ told_row (with_answer id reply told) (without_closings attempt) self.old }
     {
-        put_answer(&mut self.dialogue, id, reply);
+        put_answer(&mut self.dialogue, id, reply, told);
         self.closings.retain(
-            |one: &Closing| -> bool
-                ensures { result ≡ not (is_attempt one.now.id.attempt attempt) }
-            { one.id.attempt != attempt },
+            |one: &ClosingOf| -> bool
+                ensures { result ≡ not (is_attempt one.now.attempt attempt) }
+            { one.attempt != attempt },
         );
     }
 }

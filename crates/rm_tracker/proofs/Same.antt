@@ -1,5 +1,5 @@
 -- After each message of a node and of the clock the tables show the judge's scene again, in which the life is the one after that message.
-use Rattle.std.proofs.Common.{◌≡◌, ℕ, ◌+◌, List, [], ◌∷◌, ◌++◌, Bool, true, false, not, ◌||◌, Option, None, Some, filter, refl, sym, ◌∙◌, ap, subst, append_assoc, arith}
+use Rattle.std.proofs.Common.{◌≡◌, ℕ, ◌+◌, List, [], ◌∷◌, ◌++◌, Bool, true, false, not, ◌&&◌, ◌||◌, Option, None, Some, filter, map, refl, sym, ◌∙◌, ap, subst, append_assoc, arith}
 use Rattle.std.specs.Prelude.{if◌then◌else◌, option_map, ◌==◌, nat_lt}
 use Rattle.std.proofs.lemmas.Bool.{eqb-true}
 use Rattle.std.proofs.lemmas.Bool.Decides.{nat_tests}
@@ -15,17 +15,25 @@ use Rattle.rm_types.specs.declared.replies.Reply.TheVariants.{NodeRegistered, Re
 use Rattle.rm_types.specs.declared.resources.Resource.{Resource}
 use Rattle.rm_types.specs.Ids.{is_container}
 use Rattle.rm_types.proofs.IdLemmas.{container_itself}
-use Rattle.rm_book.specs.Books.{BookOf, BookRowsAreApart, IsBook}
+use Rattle.std.specs.Str.{bytes_eq}
+use Rattle.rm_types.specs.Containers.{is_granted}
+use Rattle.rm_types.specs.declared.containers.BookRow.{BookRow}
+use Rattle.rm_types.specs.declared.containers.ContainerState.TheVariants.{Acquired, Running}
+use Rattle.rm_book.specs.Books.{BookOf, BookRowsAreApart, IsBook, TellUpTo}
+use Rattle.rm_model.specs.MasterReplies.{is_late}
+use Rattle.rm_tables.specs.LateRows.{is_late_row}
+use Rattle.rm_refinement.proofs.Late.{late_as, numbers_kept, still_each}
 use Rattle.rm_model.specs.State.{LifeState, NodeState, Row, Scene, Lost, Waiting}
 use Rattle.rm_model.specs.Attempts.{is_live}
 use Rattle.rm_model.specs.Facts.{has_container}
-use Rattle.rm_model.specs.NodeReplies.{beat_reply, beaten, beaten_reply, beats, clock_reply, expired, is_new_to_node, life_after_clock, life_after_node, may_expire, new_node, node_register_reply, node_reply, node_after_registration, reported, strangers}
+use Rattle.rm_model.specs.NodeReplies.{beat_reply, beaten, beaten_reply, beats, clock_reply, expired, is_new_to_node, life_after_clock, life_after_node, may_expire, new_node, node_register_reply, node_reply, node_after_registration, reported, row_beaten, strangers}
 use Rattle.rm_model.specs.Nodes.{is_ready as is_ready_told, is_waiting, judged_node as node_told}
 use Rattle.rm_states.specs.declared.node.states.NodeState.{NodeState as NodePhase}
 use Rattle.rm_states.specs.declared.node.states.NodeState.TheVariants as states
 use Rattle.rm_states.specs.declared.node.states.NodeEvent.TheVariants as node_events
 use Rattle.rm_states.specs.node.Table.{next_node_state as next_node_state}
 use Rattle.rm_refinement.specs.Agreement.{phase_of}
+use Rattle.rm_tables.specs.Rows.{row_of}
 use Rattle.rm_tables.specs.declared.events.SchedEvent.{SchedEvent}
 use Rattle.rm_tables.specs.declared.nodes.NodeChange.TheVariants as of_node
 use Rattle.rm_tables.specs.declared.nodes.NodeRow.{NodeRow}
@@ -36,7 +44,7 @@ use Rattle.rm_refinement.specs.Services.{RefinesLife}
 use Rattle.rm_tracker.specs.Answers.{after_clock, after_node, beat_events, beaten_with, is_next_beat, launched_by, registered_by, registered_first}
 use Rattle.rm_tracker.specs.Offers.{OnlyNodesOffer}
 use Rattle.rm_refinement.proofs.Nodes.{added_same, tidied_same, with_same}
-use Rattle.rm_tracker.proofs.Alike.{book_at_once, rows_beaten_same}
+use Rattle.rm_tracker.proofs.Alike.{beaten_at_once, book_at_once, rows_beaten_same}
 use Rattle.rm_tracker.proofs.Replies.{ready_alike}
 
 -- a scene in which another life stands
@@ -45,8 +53,9 @@ living m life = record m { life = life }
 
 -- the tables show a scene again whose containers and nodes changed alike
 again : (m : Scene) (t : Tables) (book : BookOf) (nodes : List (List ℕ × NodeRow)) (sched : List SchedEvent) (rows : List Row) (told : List NodeState) → RefinesLife m t → SameRows book.rows rows
-    → SameNodes book nodes told → RefinesLife (living m (record m.life { book = rows; nodes = told })) (record t { book = book; nodes = nodes; sched = sched })
-again m t book nodes sched rows told shows same_rows same_nodes =
+    → SameNodes book nodes told → (t.settings.recover_ended_containers ≡ true → TellUpTo 0 book.added book.rows) → ((q : AttemptId) (n : ℕ) → map (is_late_row t q n) t.book.rows ≡ map (is_late m q) m.life.book → map (is_late_row t q n) book.rows ≡ map (is_late m q) rows)
+    → RefinesLife (living m (record m.life { book = rows; nodes = told })) (record t { book = book; nodes = nodes; sched = sched })
+again m t book nodes sched rows told shows same_rows same_nodes numbers late =
     record {
       records = shows.records;
       epoch = shows.epoch;
@@ -57,6 +66,13 @@ again m t book nodes sched rows told shows same_rows same_nodes =
       masters = shows.masters;
       live = shows.live;
       finishes = shows.finishes;
+      around = record {
+        firsts = shows.around.firsts;
+        departed = shows.around.departed;
+        pending = shows.around.pending;
+        numbers = numbers;
+        late = λ recovers q. late_as m (living m (record m.life { book = rows; nodes = told })) t (record t { book = book; nodes = nodes; sched = sched }) q (λ n before. late q n before) (row_of t.rows q.app) (shows.around.late recovers q);
+      };
     }
 
 -- REGISTRATIONS
@@ -72,7 +88,7 @@ register_by m t name turn capability running reply None None shows offer in_tabl
     (again m t t.book (t.nodes ++ (name, new_node_row turn capability running (NodeRegistered turn m.life.epoch)) ∷ []) _ m.life.book _ shows shows.rows
     (tidied_same t.book _ m.life.book _
     (added_same t.book name (new_node_row turn capability running (NodeRegistered turn m.life.epoch)) (new_node name (record { turn = turn; capability = capability; running = running }) (NodeRegistered turn m.life.epoch))
-    t.nodes m.life.nodes refl shows.nodes in_tables told (rw (offer name in_tables) refl)))))
+    t.nodes m.life.nodes refl shows.nodes in_tables told (rw (offer name in_tables) refl))) shows.around.numbers (λ q n before. before)))
 register_by m t name turn capability running reply (Some row) (Some node) shows offer in_tables told e is =
     let alike : bare_node t.book name row ≡ plain_node node = cc in
     let last : row.turn ≡ node.last.turn = ap (λ (x : PlainNode). x.last.turn) alike in
@@ -91,7 +107,7 @@ register_by m t name turn capability running reply (Some row) (Some node) shows 
         (node_after_registration (record { turn = turn; capability = capability; running = running }) (NodeRegistered turn m.life.epoch)) t.nodes m.life.nodes (λ one. refl) shows.nodes
         (λ r o a b alike. ap
         (λ (x : PlainNode). record x { last = record { turn = turn; capability = capability; running = running }; phase = Waiting; last_id = 0; last_reply = NodeRegistered turn m.life.epoch })
-        alike)))))
+        alike))) shows.around.numbers (λ q n before. before)))
     by false later same is =
         let later_row : nat_lt row.turn turn ≡ false = same ∙ later in
         let answer : reply ≡ NodeRegistered node.last.turn m.life.epoch = rw later at is in
@@ -133,6 +149,22 @@ pub all_left : (launches : List ContainerId) → launches ≡ filter (λ id. not
 all_left [] = refl
 all_left (id ∷ launches) = ap (λ l. id ∷ l) (all_left launches)
 
+-- a beat leaves the rows as late as they were
+brought_number : (name : List ℕ) (running launched : List ContainerId) (row : BookRow) → (beaten_at_once name running launched row).told ≡ row.told
+brought_number name running launched row = refl
+
+late_brought : (t : Tables) (q : AttemptId) (n : ℕ) (name : List ℕ) (running launched : List ContainerId) (row : BookRow) → is_late_row t q n (beaten_at_once name running launched row) ≡ is_late_row t q n row
+late_brought t q n name running launched row = refl
+
+late_beaten : (m : Scene) (q : AttemptId) (name : List ℕ) (running launched : List ContainerId) (row : Row) → is_late m q (row_beaten name running launched row) ≡ is_late m q row
+late_beaten m q name running launched row = by (not (bytes_eq row.node name)) (has_container running row.id) (has_container launched row.id && is_granted row.state)
+  where
+    by : (a b c : Bool) → is_late m q (if a then row else (if b then record row { state = Running } else (if c then record row { state = Acquired } else row))) ≡ is_late m q row
+    by true b c = refl
+    by false true c = refl
+    by false false true = refl
+    by false false false = refl
+
 -- a new beat
 new_beat : (m : Scene) (t : Tables) (name : List ℕ) (id : ℕ) (running : List Held) (done : List ContainerId) (reply : Reply) (row : NodeRow) (node : NodeState) → RefinesLife m t → BookRowsAreApart t.book.rows
     → node_in t.nodes name ≡ Some row → node_told m.life.nodes name ≡ Some node → id ≡ node.last_id
@@ -143,7 +175,11 @@ new_beat m t name id running done reply row node shows apart in_tables told last
     (sym (book_at_once name (reported running) (launched_by reply) t.book apart))
     (again m t _ _ _ _ _ shows (rows_beaten_same name (reported running) (launched_by reply) t.book.rows m.life.book shows.rows)
     (with_same t.book name (beaten_row (id + 1) reply) (beaten (launched_by reply) done reply) t.nodes m.life.nodes (λ one. refl) shows.nodes
-    (λ r o a b alike. beaten_alike r o (unwrapped (sym a ∙ in_tables)) (unwrapped_told (sym b ∙ told)) alike)))
+    (λ r o a b alike. beaten_alike r o (unwrapped (sym a ∙ in_tables)) (unwrapped_told (sym b ∙ told)) alike))
+    (λ recovers. numbers_kept (beaten_at_once name (reported running) (launched_by reply)) (brought_number name (reported running) (launched_by reply)) 0 t.book.added t.book.rows (shows.around.numbers recovers))
+    (λ q n before.
+    still_each (is_late_row t q n) (beaten_at_once name (reported running) (launched_by reply)) (late_brought t q n name (reported running) (launched_by reply)) t.book.rows ∙ before
+    ∙ sym (still_each (is_late m q) (row_beaten name (reported running) (launched_by reply)) (late_beaten m q name (reported running) (launched_by reply)) m.life.book)))
   where
     unwrapped : {r : NodeRow} → Some r ≡ Some row → r ≡ row
     unwrapped e = cc
@@ -242,6 +278,13 @@ tick_same m t time reply shows is =
       masters = shows.masters;
       live = shows.live;
       finishes = shows.finishes;
+      around = record {
+        firsts = shows.around.firsts;
+        departed = shows.around.departed;
+        pending = shows.around.pending;
+        numbers = shows.around.numbers;
+        late = λ recovers q. late_as m (living m (life_after_clock m (Tick time) Ok)) t (after_clock (Tick time) Ok t) q (λ n before. before) (row_of t.rows q.app) (shows.around.late recovers q);
+      };
     })
 
 -- a node's silence leaves it lost, however it stood
@@ -262,7 +305,7 @@ expired_same m t name reply shows is = by (may_expire m name) refl is
         subst (λ (one : Reply). RefinesLife (living m (life_after_clock m (ExpireNode name) one)) (after_clock (ExpireNode name) one t)) (sym answer)
         (again m t t.book (with_node (changed_row of_node.Lose) name t.nodes) _ m.life.book _ shows shows.rows
         (tidied_same t.book _ m.life.book _
-        (with_same t.book name (changed_row of_node.Lose) expired t.nodes m.life.nodes (λ one. refl) shows.nodes (λ r o a b alike. let lost = expires r.state in rw lost (ap (λ (x : PlainNode). record x { phase = Lost }) alike)))))
+        (with_same t.book name (changed_row of_node.Lose) expired t.nodes m.life.nodes (λ one. refl) shows.nodes (λ r o a b alike. let lost = expires r.state in rw lost (ap (λ (x : PlainNode). record x { phase = Lost }) alike)))) shows.around.numbers (λ q n before. before))
     by false may is =
         let answer : reply ≡ Unknown = rw may at is in
         subst (λ (one : Reply). RefinesLife (living m (life_after_clock m (ExpireNode name) one)) (after_clock (ExpireNode name) one t)) (sym answer) shows
@@ -287,6 +330,13 @@ master_expired_same m t attempt reply shows is = by (is_live m attempt) refl is
           masters = shows.masters;
           live = shows.live;
           finishes = shows.finishes;
+          around = record {
+            firsts = shows.around.firsts;
+            departed = shows.around.departed;
+            pending = shows.around.pending;
+            numbers = shows.around.numbers;
+            late = λ recovers q. late_as m (living m (life_after_clock m (ExpireMaster attempt) Ok)) t (after_clock (ExpireMaster attempt) Ok t) q (λ n before. before) (row_of t.rows q.app) (shows.around.late recovers q);
+          };
         })
     by false lives is =
         let answer : reply ≡ Unknown = rw lives at is in

@@ -13,21 +13,21 @@ returns-then-branch c =
 
 pub returns-in_default : goal.returns-in_default
 returns-in_default c =
-    let none = none_from_is_some (lookup (is_app c.args.closing.id.attempt.app) c.args.lists.now) (sym c.in_ok-add_ending.ensures.there ∙ c.if-branch.false) in
+    let none = none_from_is_some (lookup (is_app c.args.closing.attempt.app) c.args.lists.now) (sym c.in_ok-add_ending.ensures.there ∙ c.if-branch.false) in
     let same = c.in_ok-add_ending.ensures.ok ∙ ending_none c.args.closing c.args.lists.now none in
     let unknown = rw c.in_default.is at c.find.ensures in
     ap (λ l. with_lists l c.args.rows.now) same ∙ ending_unknown c.args.closing c.args.lists.now c.args.rows.now none (sym unknown)
 
 pub add-requires : goal.add-requires
 add-requires c =
-    let none = none_from_is_some (lookup (is_app c.args.closing.id.attempt.app) c.args.lists.now) (sym c.in_ok-add_ending.ensures.there ∙ c.if-branch.false) in
+    let none = none_from_is_some (lookup (is_app c.args.closing.attempt.app) c.args.lists.now) (sym c.in_ok-add_ending.ensures.there ∙ c.if-branch.false) in
     let same = c.in_ok-add_ending.ensures.ok ∙ ending_none c.args.closing c.args.lists.now none in
-    ap (lookup (is_app c.args.closing.id.attempt.app)) same ∙ none
+    ap (lookup (is_app c.args.closing.attempt.app)) same ∙ none
 
 pub returns : goal.returns
 returns c =
-    let none = none_from_is_some (lookup (is_app c.args.closing.id.attempt.app) c.args.lists.now) (sym c.in_ok-add_ending.ensures.there ∙ c.if-branch.false) in
+    let none = none_from_is_some (lookup (is_app c.args.closing.attempt.app) c.args.lists.now) (sym c.in_ok-add_ending.ensures.there ∙ c.if-branch.false) in
     let same = c.in_ok-add_ending.ensures.ok ∙ ending_none c.args.closing c.args.lists.now none in
     let found = rw c.in-Some.is at c.find.ensures in
     on_ok_map _ (λ e. ending_first c.args.closing c.args.lists.now c.add.new.self c.args.rows.now c.in-Some.row.now none (sym found)
-    (e ∙ ap (λ l. c.add_ending.new.self ++ (c.args.closing.id.attempt.app, l) ∷ []) c.in_ok-with_closing.ensures ∙ ap (λ l. l ++ (c.args.closing.id.attempt.app, c.in-Some.row.now.closings ++ c.args.closing ∷ []) ∷ []) same)) c.add.ensures
+    (e ∙ ap (λ l. c.add_ending.new.self ++ (c.args.closing.attempt.app, l) ∷ []) c.in_ok-with_closing.ensures ∙ ap (λ l. l ++ (c.args.closing.attempt.app, c.in-Some.row.now.closings ++ c.args.closing ∷ []) ∷ []) same)) c.add.ensures

@@ -21,7 +21,7 @@ returns-clause-ok c = elim c.match-get_mut.branch [
       let value = rw w.in-Some.is at c.get_mut.ensures.value in
       let found = ending_found c.args.closing w.in-Some.list.now c.self.inside.map.entries (sym value) in
       rw (w.self-inside-is, w.result-is) (rw (← c.self.view_is) ((c.get_mut.follows.holds w.push.new.self).0
-      ∙ ap (set_value (is_app c.args.closing.id.attempt.app) c.self.inside.map.entries) w.in_ok-push-in-Some.ensures.ok ∙ sym found))
+      ∙ ap (set_value (is_app c.args.closing.attempt.app) c.self.inside.map.entries) w.in_ok-push-in-Some.ensures.ok ∙ sym found))
   | in-None w ↦
       let value = rw w.in-None.is at c.get_mut.ensures.value in
       rw (w.self-inside-is, w.result-is) (rw (← c.self.view_is) (ap (λ m. m.entries) c.get_mut.follows.holds-at-none ∙ sym (ending_none c.args.closing c.self.inside.map.entries (sym value))))
