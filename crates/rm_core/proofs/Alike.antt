@@ -1,14 +1,13 @@
 -- Records that are alike: as equal ones are, and they show the same operations.
-use Rattle.std.proofs.Common.{◌≡◌, ℕ, Bool, true, false, not, ◌&&◌, List, [], ◌∷◌, map, length, nat_lt, Option, None, Some, is_some, is_none, refl, sym, ◌∙◌, ap, subst, option_map}
+use Rattle.std.proofs.Common.{◌≡◌, ℕ, Bool, true, false, not, List, [], ◌∷◌, map, length, nat_lt, Option, None, Some, is_some, is_none, refl, sym, ◌∙◌, ap, subst, option_map}
 use Rattle.std.proofs.lemmas.List.{length-map}
 use Rattle.rm_types.specs.declared.ids.AppId.{AppId}
 use Rattle.rm_types.specs.declared.operations.Op.{Op}
 use Rattle.rm_types.specs.declared.operations.Op.TheVariants.{Epoch, App, Attempt, AttemptEnd, AppEnd, Remove}
 use Rattle.rm_types.specs.declared.records.AppRecord.{AppRecord}
 use Rattle.rm_types.specs.Ids.{is_app}
-use Rattle.rm_types.specs.Lists.{is_nil}
 use Rattle.rm_types.specs.Records.{Records, is_some_and, record_of}
-use Rattle.rm_tree.specs.Changes.{is_unended_last}
+use Rattle.rm_tree.specs.Changes.{is_end_recorded}
 use Rattle.rm_tree.specs.Shows.{shows}
 use Rattle.rm_types.specs.Alike.{IsAlike, without_end_order}
 
@@ -51,7 +50,7 @@ shows_bare r (Attempt id master node) = rw (bare_found r.apps id.app) (by (recor
     by (Some app) = refl
 shows_bare r (AttemptEnd id how text) = rw (bare_found r.apps id.app) (by (record_of r.apps id.app))
   where
-    by : (o : Option AppRecord) → is_some_and (λ app. not (is_nil app.attempts) && not (is_unended_last id app)) o ≡ is_some_and (λ app. not (is_nil app.attempts) && not (is_unended_last id app)) (option_map without_end_order o)
+    by : (o : Option AppRecord) → is_some_and (λ app. is_end_recorded id app) o ≡ is_some_and (λ app. is_end_recorded id app) (option_map without_end_order o)
     by None = refl
     by (Some app) = refl
 shows_bare r (AppEnd id how text) = rw (bare_found r.apps id) (by (record_of r.apps id))

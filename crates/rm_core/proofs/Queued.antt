@@ -9,7 +9,6 @@ use Rattle.rm_types.specs.declared.messages.Lane.TheVariants.{Main as MainLane, 
 use Rattle.rm_types.specs.Lanes.{lane_of_entry}
 use Rattle.rm_states.specs.declared.attempt.states.AttemptState.{AttemptState}
 use Rattle.rm_states.specs.declared.attempt.states.AttemptState.TheVariants as attempts
-use Rattle.rm_book.specs.Books.{book_row as book_row_of}
 use Rattle.rm_model.specs.Containers.{once}
 use Rattle.rm_tables.specs.declared.events.MainEvent.{MainEvent}
 use Rattle.rm_tables.specs.declared.events.MainEvent.TheVariants as mains
@@ -26,7 +25,7 @@ use Rattle.rm_tables.specs.MainEvents.{main_step}
 use Rattle.rm_tables.specs.Nodes.{is_waiting_row, node_row}
 use Rattle.rm_tables.specs.Passing.{updated_by}
 use Rattle.rm_tables.specs.Rows.{row_of}
-use Rattle.rm_tables.specs.SchedEvents.{is_on, is_released, queued_at, queued_by, queued_with, sched_step}
+use Rattle.rm_tables.specs.SchedEvents.{ends_as_done, is_released, queued_at, queued_by, queued_with, sched_step}
 use Rattle.rm_invariant.specs.events.Outcomes.{Outcome, accepts, adds, delays, ends, ends_one, follows, idles, issues, kills, loses, orders, removes, requeues, saves}
 use Rattle.rm_invariant.proofs.events.Outcomes.{main_outcome}
 use Rattle.rm_core.specs.Queues.{main_moved, sched_moved, tables_moved}
@@ -150,6 +149,6 @@ module _ (t : Tables) (rest : List SchedEvent) where
   sched_told (scheds.AttemptRemoved id) front list = ending (scheds.AttemptRemoved id) front causes.Attempt list refl
   sched_told (scheds.Release attempt released) front list = ending (scheds.Release attempt released) front causes.Released (once (filter (is_released attempt t) released)) refl
   sched_told (scheds.NodeAdded node turn) front list = absorbed_told node turn front list (node_row t.nodes node) refl
-  sched_told (scheds.NodeDone node done) front list = ending (scheds.NodeDone node done) front causes.Done (once (filter (λ id. is_on node (book_row_of t.book id)) done)) refl
+  sched_told (scheds.NodeDone node done) front list = ending (scheds.NodeDone node done) front causes.Done (once (filter (ends_as_done node t) done)) refl
   sched_told (scheds.NodeUpdate node) front list = updated_told node front (node_row t.nodes node) refl
   sched_told (scheds.NodeLost node) front list = ending (scheds.NodeLost node) front causes.Node list refl

@@ -11,7 +11,7 @@ use Rattle.rm_refinement.specs.History.{History, abstract_scene}
 use Rattle.rm_refinement.specs.Clients.{RefinesForClients}
 use Rattle.rm_invariant.specs.messages.Ranges.{IsMessage}
 use Rattle.rm_invariant.specs.measure.Measure.{message_measure, measure}
-use Rattle.rm_invariant.proofs.measure.Messages.{client_weighs, clock_weighs, master_weighs, node_weighs}
+use Rattle.rm_invariant.proofs.measure.Messages.{message_weighs}
 use Rattle.rm_invariant.specs.Preserves.{PreservesLife}
 use Rattle.rm_invariant.specs.Invariant.{LifeInvariant}
 use Rattle.rm_invariant.proofs.MessagesPreserve.{client_runs, client_shown, clock_runs, life_shown, master_runs, node_runs}
@@ -38,10 +38,10 @@ serve_goes h t r few message reply in_range answers =
 
 -- with little more to do
 open_weighs : (h : History) (t : Tables) → LifeInvariant h t → (message : Message) (reply : Reply) → IsMessage message → measure (record (after_answer message reply t) { served = t.served + 1 }) ≤ measure t + message_measure
-open_weighs h t r (messages.Client user ask) reply in_range = client_weighs t r.limits ask reply (t.served + 1)
-open_weighs h t r (messages.Master attempt ask) reply in_range = master_weighs t r.limits attempt ask reply (t.served + 1)
-open_weighs h t r (messages.Node name ask) reply in_range = node_weighs t r.limits name ask reply (t.served + 1)
-open_weighs h t r (messages.Clock ask) reply in_range = clock_weighs t r.limits ask reply (t.served + 1)
+open_weighs h t r (messages.Client user ask) reply in_range = message_weighs t r.limits (messages.Client user ask) reply (t.served + 1) in_range
+open_weighs h t r (messages.Master attempt ask) reply in_range = message_weighs t r.limits (messages.Master attempt ask) reply (t.served + 1) in_range
+open_weighs h t r (messages.Node name ask) reply in_range = message_weighs t r.limits (messages.Node name ask) reply (t.served + 1) in_range
+open_weighs h t r (messages.Clock ask) reply in_range = message_weighs t r.limits (messages.Clock ask) reply (t.served + 1) in_range
 
 pub serve_weighs : (h : History) (t : Tables) → LifeInvariant h t → (message : Message) (reply : Reply) → IsMessage message → measure (served_moved message reply t) ≤ measure t + message_measure
 serve_weighs h t r message reply in_range =

@@ -37,7 +37,7 @@ abbrev pub IsOwn : Seen → Records → Type 0
 IsOwn seen tree = IsAlike (own_tree seen.log seen.tables tree) tree
 
 -- a move may be asked for: what is handed to a life is its own but for the numbers of ends, and its number is 1 to 10^15; the parts of a
--- message are in their ranges, and not more than 100,000 are served in a life
+-- message are in their ranges, and fewer than 2^31 are served in a life
 abbrev pub CanMake : Seen → Move → Type 0
 CanMake seen (Begin tree handed) = CanBeginOver tree × IsOwn seen tree × (1 ≤ handed) × (handed ≤ greatest_stamp)
 CanMake seen (Serve message) = IsMessage message × (seen.tables.served < most_served)

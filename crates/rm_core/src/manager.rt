@@ -133,6 +133,13 @@ impl Core {
         count_kept(self.log.as_slice()) as u64
     }
 
+    /// How many messages were served in the life that stands: 0 to 2^31 - 1. Before the first life, and where a life went down, none were.
+    pub fn served(&self) -> u32
+        ensures { result ≡ self.now.tables.served }
+    {
+        self.tables.served
+    }
+
     /// Whether a lane has something to do, as far as the manager itself can tell.
     pub fn is_ready(&self, lane: Lane) -> bool
         ensures { result ≡ is_ready_lane self.now.tables lane }

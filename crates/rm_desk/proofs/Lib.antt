@@ -8,3 +8,4 @@ pub mod Senders
 pub mod Firsts
 pub mod Takes
 pub mod Unbegun
+pub mod Growing

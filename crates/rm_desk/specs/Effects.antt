@@ -17,7 +17,7 @@ use Rattle.rm_types.specs.Lanes.{lane_of_entry}
 use Rattle.rm_types.specs.Records.{Records}
 use Rattle.rm_model.specs.State.{LifeState}
 use Rattle.rm_model.specs.Lawful.{state_after}
-use Rattle.rm_model.specs.Place.{close_left, first_from, messages_left, moved, stamp_of}
+use Rattle.rm_model.specs.Place.{Growth, MayGrow, close_left, first_from, messages_left, moved, place_grown, script_grown, stamp_of}
 use Rattle.rm_core.specs.Moves.{IsLeftAfter}
 use Rattle.rm_core.specs.Seen.{StandsFor}
 use Rattle.rm_core.specs.Words.{as_new, handed_of, has_rest, is_blown, landed_over, stands}
@@ -97,6 +97,13 @@ pub record LifeBegins (tree : Records) (old new : DeskView) : Type 0 where
   pub stood : stands old.core ≡ false
   pub standing : stands new.core ≡ true
   pub unblown : is_blown new.core ≡ false
+
+-- the script has this more at its end: the manager and its log stay as they are, what is left of the script is longer, and what was a run along the
+-- script is one along the longer script, whatever its log
+pub record Grows (growth : Growth) (old new : DeskView) : Type 0 where
+  pub core : new.core ≡ old.core
+  pub place : new.place ≡ place_grown growth old.place
+  pub run : (opening : List Op) (script : Script) → MayGrow growth script → IsScriptRun opening script old → IsScriptRun opening (script_grown growth script) new
 
 -- an operation is with the store in a life
 abbrev pub HasHanded : Option LifeState → Type 0

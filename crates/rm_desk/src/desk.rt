@@ -1,4 +1,4 @@
-ghost use Rattle.std.specs.Prelude.{◌≡◌, ◌↔◌, ℕ, List, [], OnOk, OnErr, IsOk, IfOk, IfNone, IfSome, IsErrOf, IsTrue, Some, true, false, not};
+ghost use Rattle.std.specs.Prelude.{◌≡◌, ◌↔◌, ◌≤◌, ◌+◌, ℕ, List, [], length, OnOk, OnErr, IsOk, IfOk, IfNone, IfSome, IsErrOf, IsTrue, Some, true, false, not};
 ghost use Rattle.std.specs.Option.{option_copied};
 ghost use Rattle.rm_types.specs.declared.messages.Lane.{Lane};
 ghost use Rattle.rm_types.specs.declared.operations.Op.{Op as AnyOp};
@@ -6,25 +6,26 @@ ghost use Rattle.rm_types.specs.declared.scripts.Close.{Close};
 ghost use Rattle.rm_types.specs.declared.scripts.Script.{Script as AnyScript};
 ghost use Rattle.rm_types.specs.Alike.{IsAlike};
 ghost use Rattle.rm_types.specs.Ranges.{IsOperation};
+ghost use Rattle.rm_types.specs.Limits.{greatest_stamp, most_served};
 ghost use Rattle.rm_types.specs.Records.{no_records};
 ghost use Rattle.rm_model.specs.Lawful.{IsDone, Lawful, state_after};
-ghost use Rattle.rm_model.specs.Place.{beginning, close_left};
+ghost use Rattle.rm_model.specs.Place.{ByLife, BySegment, beginning, close_left};
 ghost use Rattle.rm_tables.specs.declared.events.Refused.{Refused};
 ghost use Rattle.rm_queues.specs.Rules.{KeepsRules};
 ghost use Rattle.rm_invariant.specs.messages.Ranges.{KeepsLimits};
 ghost use Rattle.rm_core.specs.Moves.{CanBeginOver, IsLeft, IsOwn};
 ghost use Rattle.rm_core.specs.Seen.{IsToBeKept, StandsFor};
-ghost use Rattle.rm_core.specs.Words.{as_new, handed_of, has_rest, is_blown, new_manager, stands};
-ghost use Rattle.rm_desk.specs.Effects.{LifeBegins, StoreBlows, LaneEffect, IsHanded};
+ghost use Rattle.rm_core.specs.Words.{as_new, handed_of, has_rest, is_blown, new_manager, served_in, stands};
+ghost use Rattle.rm_desk.specs.Effects.{Grows, LifeBegins, StoreBlows, LaneEffect, IsHanded};
 ghost use Rattle.rm_desk.specs.Lanes.{HasNoWork, IsStep, is_ready_at};
 ghost use Rattle.rm_desk.specs.Runs.{IsScriptOver, IsScriptRun, IsPlaceSound, DescribesState};
-ghost use Rattle.rm_desk.specs.Scripts.{CanGoAlong};
+ghost use Rattle.rm_desk.specs.Scripts.{AllServed, CanGoAlong};
 
 use crate::feeds::Feeds;
 use crate::moves::{advance, begin, blown, kept};
 use rm_core::{Core, Refused};
 use rm_tree::Tree;
-use rm_types::{Close, Entry, Items, Lane, NoMemory, Op, Script, Sender, Settings};
+use rm_types::{Close, Entry, Items, Lane, Life, NoMemory, Op, Script, Segment, Sender, Settings};
 use std::alloc::Global;
 use std::marker::Model;
 
@@ -69,6 +70,45 @@ impl Desk {
             core,
             feeds: Feeds::new(alloc, script),
         })
+    }
+
+    /// The script has a life more at its end, with this stamp (1 to 10^15) and with no segment yet: a run along the script is one along the
+    /// longer script. No life stands, and none is left of the script. The manager and its log stay as they are. `NoMemory` where no memory was
+    /// found for it, and then nothing has changed.
+    pub fn add_life(&mut self, stamp: u64) -> Result<(), NoMemory>
+        requires down { stands self.old.core ≡ false }
+        requires last { self.old.place.lives ≡ [] }
+        requires low { 1 ≤ stamp }
+        requires high { stamp ≤ greatest_stamp }
+        ensures grows { OnOk result (Grows (ByLife (record { stamp = stamp; segments = [] })) self.old self.new) }
+        ensures err { OnErr result (self.new ≡ self.old) }
+    {
+        let life = Life {
+            stamp,
+            segments: Items::new(self.feeds.alloc),
+        };
+        self.feeds.add_life(life)
+    }
+
+    /// The script has this segment more at its end, which becomes the current one: a run along the script is one along the longer script. The
+    /// last life of the script stands, and no segment of it is left; each message is of a kind that is served, and with those that the life
+    /// served they are 2^31 - 1 at most. The manager and its log stay as they are. It takes no memory.
+    pub fn add_segment(&mut self, segment: Segment)
+        requires stands { stands self.old.core ≡ true }
+        requires last { self.old.place.lives ≡ [] }
+        requires closed { self.old.place.segments ≡ [] }
+        requires each { AllServed segment.messages }
+        requires few { served_in self.old.core + length segment.messages ≤ most_served }
+        ensures { Grows (BySegment segment) self.old self.new }
+    {
+        self.feeds.add_segment(segment)
+    }
+
+    /// How many messages were served in the life that stands: 0 to 2^31 - 1. Before the first life, and where a life went down, none were.
+    pub fn served(&self) -> u32
+        ensures { result ≡ served_in self.now.core }
+    {
+        self.core.served()
     }
 
     /// Whether a lane may move: the manager has something to do there, and the script is at it. The lane of a feed

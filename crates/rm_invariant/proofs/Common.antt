@@ -20,7 +20,7 @@ pub use Rattle.rm_client.specs.Answers.{after_client, submitted_row, taken_by, w
 pub use Rattle.rm_master.specs.Answers.{acquired, acquired_row, after_master, allocated_with, is_new_to, registered, release_events, said}
 pub use Rattle.rm_master.specs.Told.{goes_on, spoken_by}
 pub use Rattle.rm_model.specs.Absorbing.{absorbed, absorbs, as_booked, as_counted, as_reported, row_absorbed, row_taken, taken_of}
-pub use Rattle.rm_model.specs.Attempts.{attempt_at, attempt_was_first, finishing_text, has_expired, has_failed, has_registered, is_live, is_masters, is_over, is_registered, kept_attempt}
+pub use Rattle.rm_model.specs.Attempts.{attempt_at, attempt_was_first, finishing_text, has_expired, has_failed, has_registered, is_live, is_masters, is_registered, is_stale, is_wanted, kept_attempt}
 pub use Rattle.rm_model.specs.Changes.{after, asks_without, life_keeps}
 pub use Rattle.rm_model.specs.ClientReplies.{client_reply}
 pub use Rattle.rm_model.specs.Containers.{ids_on, is_living, is_size, leave, lives_on, once, released_by, without_launches}
@@ -46,7 +46,7 @@ pub use Rattle.rm_tables.specs.Absorbing.{absorbed_by, absorbed_if, absorbed_wit
 pub use Rattle.rm_tables.specs.Actions.{app_changed, app_ends, attempt_ends, ends_app, found_in, main_popped, main_quiet, main_worked, next_in, sched_popped, sched_quiet, sched_worked, schedules}
 pub use Rattle.rm_tables.specs.Changes.{after_failure, attempt_after, changed, current_after, granted, granted_at, killed_state, scheduled}
 pub use Rattle.rm_tables.specs.Completed.{completion_of, completions_in, ended_in, put_completion, with_completed}
-pub use Rattle.rm_tables.specs.KeptOps.{dropped_at, dropped_by, dropped_of, kept}
+pub use Rattle.rm_tables.specs.KeptOps.{kept, removed_at, removed_by, removed_if, removed_of}
 pub use Rattle.rm_tables.specs.Leaving.{closed, closed_in, closed_one, closings_of, ended_by, is_masters_in, left_all, losts_of, unlaunched, unlaunched_at, unlaunched_one}
 pub use Rattle.rm_tables.specs.Lives.{begun, handed_out, refused}
 pub use Rattle.rm_tables.specs.MainEvents.{accept_of_row, accept_of_state, attempt_kill, decision_of_attempt_state, decision_of_current, decision_of_end, decision_of_row, end_with, expiry_of_current, expiry_of_living, expiry_of_row, finish_of_current, finish_of_living, finish_of_row, finishing_in, grant_of_current, grant_of_place, grant_of_row, grant_of_state, is_living_one, is_master_of, kill_of_attempt_state, kill_of_row, kill_of_state, last_end_in, launch_of_current, launch_of_living, launch_of_master, launch_of_place, launch_of_row, launch_of_tests, loss_of_current, loss_of_row, loss_of_state, main_step, node_at, removal_of_first, save_of_row, save_of_state, start_of_submission, with_attempt_requeued, with_order}

@@ -1,5 +1,5 @@
 -- Each move brings the state of a container in the book along a row of its table, or leaves it.
-use Rattle.rm_invariant.proofs.Common.{◌≡◌, ◌⊎◌, inl, inr, ℕ, ◌+◌, List, [], ◌∷◌, ◌++◌, Bool, true, false, ◌&&◌, not, Option, None, Some, filter, find, map, refl, sym, ◌∙◌, ap, subst, arith, nat_tests, if◌then◌else◌, list_any, bytes_eq, Ask, BookRow, Closing, ContainerState, Acquired, Running, Grant, Held, Entry, AttemptId, ContainerId, ClientAsk, ClockAsk, MasterAsk, NodeAsk, Op, Reply, Resource, is_container, same_container, BookOf, entering, granted_rows, is_of, book_row_taken, taken_rows, with_grants, book_with_taken, without_rows, is_held, is_granted, has_container, reported, master_reply, Scene, MainEvent, SchedEvent, AppRow, Dialogue, Tables, main_worked, sched_worked, kept, is_masters_in, main_step, sched_step, History, abstract_scene, RefinesLife, after_client, acquired, acquired_row, after_master, is_new_to, after_clock, after_node, beaten_book, is_row_on, is_untold_row, Message, spoken_by}
+use Rattle.rm_invariant.proofs.Common.{◌≡◌, ◌⊎◌, inl, inr, ℕ, ◌+◌, List, [], ◌∷◌, ◌++◌, Bool, true, false, ◌&&◌, not, Option, None, Some, filter, find, map, refl, sym, ◌∙◌, ap, subst, arith, nat_tests, if◌then◌else◌, list_any, bytes_eq, Ask, BookRow, ContainerState, Acquired, Running, Grant, Held, Entry, AttemptId, ContainerId, ClientAsk, ClockAsk, MasterAsk, NodeAsk, Op, Reply, Resource, is_container, same_container, BookOf, entering, granted_rows, is_of, book_row_taken, taken_rows, with_grants, book_with_taken, without_rows, is_held, is_granted, has_container, reported, master_reply, Scene, MainEvent, SchedEvent, AppRow, Dialogue, Tables, main_worked, sched_worked, kept, is_masters_in, main_step, sched_step, History, abstract_scene, RefinesLife, after_client, acquired, acquired_row, after_master, is_new_to, after_clock, after_node, beaten_book, is_row_on, is_untold_row, Message, spoken_by, Closing}
 use Rattle.std.proofs.Common.{◌==◌, IfSome, is_some, option_map}
 use Rattle.rm_types.specs.declared.containers.ContainerState.TheVariants.{Granted, Completed}
 use Rattle.rm_types.specs.declared.operations.Op.TheVariants as ops
@@ -8,11 +8,11 @@ use Rattle.rm_states.specs.declared.container.states.ContainerEvent.TheVariants.
 use Rattle.rm_states.specs.declared.container.states.ContainerAction.TheVariants.{Nothing}
 use Rattle.rm_states.specs.container.Table.{ContainerTransition as ContainerTableRow}
 use Rattle.rm_book.specs.Books.{AreLiving, IsBook, is_living_state, book_row}
-use Rattle.rm_book.specs.Granted.{AllMayBeTold, grants_to, may_be_told}
-use Rattle.rm_book.proofs.UntoldGrants.{granted_to_told, told_filter}
+use Rattle.rm_book.specs.Granted.{AllMayBeTold, may_be_told}
 use Rattle.rm_tables.specs.declared.events.MainEvent.TheVariants as mains
 use Rattle.rm_tables.specs.Rows.{row_of as row_of_app}
-use Rattle.rm_master.specs.Answers.{ids_granted}
+use Rattle.rm_master.specs.Answers.{handed_by, handed_over, handed_row, ids_granted, own_grants}
+use Rattle.rm_master.proofs.Picked.{own_told}
 use Rattle.rm_master.specs.Told.{allocate_told, allocated_told, asks_too_much, grants_told, asks_too_many, living_row, master_told, new_told, spoken_in, spoken_told}
 use Rattle.rm_master.proofs.Served.{master_answer}
 use Rattle.rm_tracker.proofs.Alike.{beaten_at_once, book_at_once}
@@ -266,6 +266,15 @@ module _ (book : BookOf) (lawful : IsBook book) (id : ContainerId) (before now :
           told_follows before.state (rw found at (told_has book.rows id grants told (subst (λ (one : ContainerId). has_container (ids_granted grants) one ≡ true) own e)))
       by false e = inl refl
 
+  handed_follows : (told : List ContainerId) → book_row (handed_over told book) id ≡ Some now → ContainerFollowsTable before.state now.state
+  handed_follows told after =
+      subst (λ (r : BookRow). ContainerFollowsTable before.state r.state) (mapped (handed_row told) (λ row. refl) after) (by (has_container told before.id) (is_granted before.state) refl)
+    where
+      by : (b c : Bool) → is_granted before.state ≡ c → ContainerFollowsTable before.state (if b && c then Acquired else before.state)
+      by true true e = granted_follows before.state e
+      by true false e = inl refl
+      by false c e = inl refl
+
   beaten_follows : (name : List ℕ) (running launched : List ContainerId) → book_row (beaten_book name running launched book) id ≡ Some now → ContainerFollowsTable before.state now.state
   beaten_follows name running launched after =
       subst (λ (r : BookRow). ContainerFollowsTable before.state r.state)
@@ -323,6 +332,13 @@ module _ (book : BookOf) (lawful : IsBook book) where
       (λ id now none after. absurd (none_is_some (book_row (acquired (ids_granted grants) book) id) now
       (found_map (acquired_row (ids_granted grants)) (λ row. refl) id book.rows ∙ ap (option_map (acquired_row (ids_granted grants))) none) after))
 
+  handed_goes : (reply : Reply) → BookFollowsTable book (handed_by reply book)
+  handed_goes (replies.Took kept) =
+      let told = ids_granted kept in
+      book_goes book (handed_over told book) lawful (λ id before now found after. handed_follows book lawful id before now found told after)
+      (λ id now none after. absurd (none_is_some (book_row (handed_over told book) id) now (found_map (handed_row told) (λ row. refl) id book.rows ∙ ap (option_map (handed_row told)) none) after))
+  handed_goes _ = book_stays book
+
   beaten_goes : (name : List ℕ) (running launched : List ContainerId) → BookFollowsTable book (beaten_book name running launched book)
   beaten_goes name running launched =
       book_goes book (beaten_book name running launched book) lawful (λ id before now found after. beaten_follows book lawful id before now found name running launched after)
@@ -369,41 +385,39 @@ module _ (t : Tables) (lawful : IsBook t.book) where
 
   -- a new allocation tells of what was granted and nobody was told of yet, and of that somebody may be told
   told_granted : (attempt : AttemptId) (id next : ℕ) (some : List Ask) (grants : List Grant) (ended : List Closing) (o : Option AppRow)
-      → replies.Allocated next grants ended ≡ allocate_told t attempt id some o → is_new_to id (spoken_in o) ≡ true → grants ≡ grants_told t attempt
+      → replies.Allocated next grants ended ≡ allocate_told t attempt id some o → is_new_to id (spoken_in o) ≡ true → (told : ℕ) × (grants ≡ grants_told t attempt told)
   told_granted attempt id next some grants ended None is new = cc
   told_granted attempt id next some grants ended (Some row) is new = by row.dialogue is new
     where
-      by_size : (a b : Bool) → replies.Allocated next grants ended ≡ (if a then replies.TooLarge else (if b then replies.Full else allocated_told t attempt id row)) → grants ≡ grants_told t attempt
-      by_size true b is = cc
-      by_size false true is = cc
-      by_size false false is = cc
+      by_size : (told : ℕ) (a b : Bool) → replies.Allocated next grants ended ≡ (if a then replies.TooLarge else (if b then replies.Full else allocated_told t attempt id told row)) → (told : ℕ) × (grants ≡ grants_told t attempt told)
+      by_size told true b is = cc
+      by_size told false true is = cc
+      by_size told false false is = (told, cc)
 
       by_id : (one : Dialogue) (a b c : Bool) → (id == one.last_id) ≡ true → (id + 1 == one.last_id) ≡ b → (id == one.last_id) ≡ c
-          → replies.Allocated next grants ended ≡ (if a then replies.Resync else (if b then one.last_reply else (if not c then replies.WrongId else new_told t attempt id some row))) → grants ≡ grants_told t attempt
+          → replies.Allocated next grants ended ≡ (if a then replies.Resync else (if b then one.last_reply else (if not c then replies.WrongId else new_told t attempt id one.told some row))) → (told : ℕ) × (grants ≡ grants_told t attempt told)
       by_id one true b c new f g is = cc
       by_id one false true c new f g is = absurd (grind (arith, nat_tests))
-      by_id one false false true new f g is = by_size (asks_too_much t.settings.greatest some) (asks_too_many t.asks attempt some) is
+      by_id one false false true new f g is = by_size one.told (asks_too_much t.settings.greatest some) (asks_too_many t.asks attempt some) is
       by_id one false false false new f g is = let x : true ≡ false = sym new ∙ g in cc
 
-      by : (d : Option Dialogue) → replies.Allocated next grants ended ≡ spoken_told t attempt id some row d → is_new_to id d ≡ true → grants ≡ grants_told t attempt
+      by : (d : Option Dialogue) → replies.Allocated next grants ended ≡ spoken_told t attempt id some row d → is_new_to id d ≡ true → (told : ℕ) × (grants ≡ grants_told t attempt told)
       by None is new = cc
       by (Some one) is new = by_id one (is_some one.finishing) (id + 1 == one.last_id) (id == one.last_id) new refl refl is
-
-  granted_may : (attempt : AttemptId) → AllMayBeTold t.book.rows (grants_told t attempt)
-  granted_may attempt = told_filter t.book.rows (λ grant. not (is_masters_in t.tree.apps grant.id)) (grants_to t.book.rows attempt) (granted_to_told attempt t.book.rows lawful.apart)
 
   -- a message, where an allocation is answered so
   message_containers : (message : Message) (reply : Reply) → IsToldSo message reply → BookFollowsTable t.book (after_message message reply t).book
   message_containers message reply is = by message reply (after_message message reply t) is (message_outcome t message reply)
     where
       allocated : (attempt : AttemptId) (id : ℕ) (some : List Ask) (reply : Reply) → serves_allocation reply ≡ true → reply ≡ allocate_told t attempt id some (living_row attempt (row_of_app t.rows attempt.app)) → is_new_to id (spoken_by attempt (row_of_app t.rows attempt.app)) ≡ true
-          → BookFollowsTable t.book (acquired (containers_told reply) t.book)
+          → BookFollowsTable t.book (acquired (containers_told attempt reply) t.book)
       allocated attempt id some (replies.Allocated told grants ended) so is new =
-          let same : grants ≡ grants_told t attempt = told_granted attempt id told some grants ended (living_row attempt (row_of_app t.rows attempt.app)) is new in
-          acquired_goes t.book lawful grants (subst (AllMayBeTold t.book.rows) (sym same) (granted_may attempt))
+          let told_so = told_granted attempt id told some grants ended (living_row attempt (row_of_app t.rows attempt.app)) is new in
+          acquired_goes t.book lawful (own_grants attempt grants) (subst (λ (list : List Grant). AllMayBeTold t.book.rows (own_grants attempt list)) (sym told_so.1) (own_told t attempt told_so.0 t.book.rows lawful.apart))
       allocated attempt id some _ so is new = cc
 
       by : (message : Message) (reply : Reply) (next : Tables) → IsToldSo message reply → MessageOutcome t message reply next → BookFollowsTable t.book next.book
+      by message reply next is (comes.registers attempt answer so) = handed_goes t.book lawful answer
       by message reply next is (comes.allocates attempt id some release answer so new) = allocated attempt id some answer so is new
       by message reply next is (comes.beats name id running done answer so new) = beaten_goes t.book lawful name (reported running) (launched_by answer)
       by message reply next is _ = still

@@ -1,5 +1,5 @@
 -- The first event of each queue of an open life leads to a life that is open still, with less to do.
-use Rattle.rm_invariant.proofs.Common.{◌≡◌, List, ◌∷◌, false, refl, sym, ◌∙◌, subst, list_any, ContainerId, Settings, MainEvent, SchedEvent, Tables, main_worked, sched_worked, main_step, EndsByEvent, sched_step, History}
+use Rattle.rm_invariant.proofs.Common.{◌≡◌, List, ◌∷◌, false, refl, sym, ◌∙◌, subst, list_any, ContainerId, Settings, MainEvent, SchedEvent, Tables, main_worked, sched_worked, main_step, EndsByEvent, sched_step, History, RefinesLife, abstract_scene}
 use Rattle.std.proofs.Common.{◌≢◌}
 use Rattle.rm_tables.specs.declared.events.MainEvent.TheVariants as mains
 use Rattle.rm_invariant.specs.messages.Ranges.{KeepsLimits}
@@ -25,6 +25,10 @@ use Rattle.rm_invariant.specs.Preserves.{PreservesLifeInternal}
 use Rattle.rm_invariant.specs.Invariant.{LifeInvariant, is_epoch_start}
 use Rattle.rm_invariant.proofs.resting.Names.{step_apart}
 use Rattle.rm_invariant.proofs.Staying.{SchedStays, main_numbers, main_stays, sched_stays}
+use Rattle.rm_invariant.proofs.Held.{held_after}
+use Rattle.rm_invariant.proofs.messages.Life.{shows_life}
+use Rattle.rm_invariant.proofs.auxiliary.AroundEvents.{main_keeps, sched_around}
+use Rattle.rm_invariant.proofs.events.Askers.{askers_current}
 
 -- a queue in which nothing begins has no EpochStart in front
 not_begun : (main : List MainEvent) (e : MainEvent) (rest : List MainEvent) → main ≡ e ∷ rest → list_any is_epoch_start main ≡ false → e ≢ mains.EpochStart
@@ -44,6 +48,7 @@ module _ (h : History) (t : Tables) (r : LifeInvariant h t) (e : MainEvent) (res
   pub main_runs : PreservesLifeInternal h t (main_worked (main_step e t)).0 (main_worked (main_step e t)).1
   main_runs =
       let s = main_step_whole in
+      let sides = main_sides h t r.whole r.sides e rest front other s in
       let stays = main_stays t (main_step e t) outcome in
       let numbers = main_numbers t (main_step e t) outcome in
       record {
@@ -56,13 +61,15 @@ module _ (h : History) (t : Tables) (r : LifeInvariant h t) (e : MainEvent) (res
             handed = stays.handed r.handed;
             limits = subst KeepsLimits (sym stays.settings) r.limits;
             whole = subst (λ (one : Settings). CoreInvariant one s.next (main_worked (main_step e t)).1) (sym stays.settings) s.whole;
-            sides = main_sides h t r.whole r.sides e rest front other s;
+            sides = sides;
+            around = main_keeps h t r.whole r.around (main_step e t) outcome s sides.firsts;
             fits = main_fits t.settings h t r.fits e outcome s;
             ranged = main_ranged t.settings h t r.whole r.limits r.ranged e rest front other;
             reported = main_few e t rest front r.reported;
             on_way = main_on_way t.settings h t r.on_way e outcome s;
             apart = step_apart t.settings h t _ s.next _ s.step r.apart;
             begun = stays.begun r.begun;
+            held = held_after h t r (main_worked (main_step e t)).0 s.next (main_worked (main_step e t)).1 s.step;
           };
           stays = stays;
         };
@@ -72,18 +79,23 @@ module _ (h : History) (t : Tables) (r : LifeInvariant h t) (e : MainEvent) (res
       }
 
 module _ (h : History) (t : Tables) (r : LifeInvariant h t) (e : SchedEvent) (rest : List SchedEvent) (front : t.sched ≡ e ∷ rest) (list : List ContainerId) (ends : EndsByEvent e t list) where
+  -- what the tables show
+  shown : RefinesLife (abstract_scene h t) t
+  shown = shows_life t.settings h t r.whole r.sides.finishes r.around.agrees
+
   sched_step_whole : PreservesCore t.settings h t (sched_worked (sched_step e list t))
-  sched_step_whole = sched_whole t.settings h t r.whole (sched_facts_of h t r.sides) e rest front (sched_step e list t) (list, ends, refl)
+  sched_step_whole = sched_whole t.settings h t r.whole (sched_facts_of h t shown r.sides) e rest front (sched_step e list t) (list, ends, refl)
 
   -- no pass grants too many
   few_granted : FewGranted t
-  few_granted = λ name row found. pass_few t (can_pass t.settings h t r.whole (sched_facts_of h t r.sides) r.ranged) name row
+  few_granted = λ name row found. pass_few t (can_pass t.settings h t r.whole (sched_facts_of h t shown r.sides) r.ranged) name row
 
   -- the first event of the scheduler's queue
   pub sched_runs : PreservesLifeInternal h t (sched_worked (sched_step e list t)).0 (sched_worked (sched_step e list t)).1
   sched_runs =
       let s = sched_step_whole in
       let all : SchedStays t (sched_worked (sched_step e list t)).1 = sched_stays t e list in
+      let sides = sched_sides h t r.sides (sched_facts_of h t shown r.sides) e rest front list s in
       let stays = all.stays in
       record {
         goes = record {
@@ -95,13 +107,15 @@ module _ (h : History) (t : Tables) (r : LifeInvariant h t) (e : SchedEvent) (re
             handed = stays.handed r.handed;
             limits = subst KeepsLimits (sym stays.settings) r.limits;
             whole = subst (λ (one : Settings). CoreInvariant one s.next (sched_worked (sched_step e list t)).1) (sym stays.settings) s.whole;
-            sides = sched_sides h t r.sides (sched_facts_of h t r.sides) e rest front list s;
+            sides = sides;
+            around = sched_around h t r.whole r.around (askers_current t.settings h t r.whole.keeps.all r.whole.agrees.asks (sched_facts_of h t shown r.sides).current) list e s sides.firsts;
             fits = sched_fits t.settings h t r.fits e list s;
-            ranged = sched_ranged t.settings h t r.whole (sched_facts_of h t r.sides) r.ranged e rest front list;
+            ranged = sched_ranged t.settings h t r.whole (sched_facts_of h t shown r.sides) r.ranged e rest front list;
             reported = sched_few e list t r.reported;
             on_way = sched_on_way t.settings h t r.whole rest r.on_way e front list s;
             apart = step_apart t.settings h t _ s.next _ s.step r.apart;
             begun = stays.begun r.begun;
+            held = held_after h t r (sched_worked (sched_step e list t)).0 s.next (sched_worked (sched_step e list t)).1 s.step;
           };
           stays = stays;
         };

@@ -20,14 +20,8 @@ use Rattle.rm_invariant.proofs.measure.Reported.{kept_few}
 use Rattle.rm_invariant.specs.Preserves.{PreservesLifeInternal}
 use Rattle.rm_invariant.specs.Invariant.{LifeInvariant}
 use Rattle.rm_invariant.proofs.Staying.{SchedStays, kept_stays}
-
--- what awaits, where no Epoch does, has none in front
-not_epoch : (awaiting : List Op) (op : Op) (rest : List Op) → awaiting ≡ op ∷ rest → list_any is_epoch_op awaiting ≡ false → is_epoch_op op ≡ false
-not_epoch awaiting op rest front none = first (is_epoch_op op) (subst (λ (l : List Op). list_any is_epoch_op l ≡ false) front none)
-  where
-    first : (b : Bool) → (b || list_any is_epoch_op rest) ≡ false → b ≡ false
-    first true e = cc
-    first false e = refl
+use Rattle.rm_invariant.proofs.Held.{held_after, not_epoch}
+use Rattle.rm_invariant.proofs.auxiliary.AroundKept.{kept_around}
 
 module _ (h : History) (t : Tables) (r : LifeInvariant h t) where
   -- the first awaiting operation fits what is recorded, and its parts are in their ranges
@@ -76,6 +70,8 @@ module _ (h : History) (t : Tables) (r : LifeInvariant h t) where
           retired = s.retired;
         };
         fits = r.fits;
+        held = r.held;
+        around = record { agrees = record { firsts = r.around.agrees.firsts; departed = r.around.agrees.departed; pending = r.around.agrees.pending; numbers = r.around.agrees.numbers; late = r.around.agrees.late }; told = r.around.told };
         ranged = store_ranged t r.ranged handed blown;
         reported = r.reported;
         on_way = still_on_way h h t next refl refl refl r.on_way;
@@ -114,22 +110,22 @@ module _ (h : History) (t : Tables) (r : LifeInvariant h t) where
     keeping : (op : Op) (rest : List Op) → t.awaiting ≡ op ∷ rest → is_epoch_op op ≡ false → fits_records t.tree op ≡ true → IsOperation op → Keeping op
     keeping (ops.Epoch next stamp) rest front other fits framed = cc
     keeping (ops.App id s) rest front other fits framed =
-        let step = app_kept_whole t.settings h t r.whole handed id s rest front fits in
+        let step = app_kept_whole t.settings h t r.whole handed r.held id s rest front fits in
         record { whole = step; sides = app_sides h t r.whole r.sides id s rest front step }
     keeping (ops.Attempt id master node) rest front other fits framed =
         let apt : master.attempt ≡ id = framed.1.attempt in
         let step : PreservesCore t.settings h t (KeptEntry (ops.Attempt id master node), kept (ops.Attempt id master node) t) =
         subst (λ (a : AttemptId). t.awaiting ≡ ops.Attempt a master node ∷ rest → fits_records t.tree (ops.Attempt a master node) ≡ true → PreservesCore t.settings h t (KeptEntry (ops.Attempt a master node), kept (ops.Attempt a master node) t)) apt
-        (λ f g. attempt_kept_whole t.settings h t r.whole handed master node rest f g) front fits in
+        (λ f g. attempt_kept_whole t.settings h t r.whole handed r.held master node rest f g) front fits in
         record { whole = step; sides = attempt_sides h t r.whole r.sides id master node rest front apt step }
     keeping (ops.AttemptEnd id how text) rest front other fits framed =
-        let step = attempt_end_kept_whole t.settings h t r.whole handed id how text rest front fits in
+        let step = attempt_end_kept_whole t.settings h t r.whole handed r.held id how text rest front fits in
         record { whole = step; sides = end_sides h t r.whole r.sides id how text rest front step }
     keeping (ops.AppEnd id how text) rest front other fits framed =
-        let step = app_end_kept_whole t.settings h t r.whole handed id how text rest front fits in
+        let step = app_end_kept_whole t.settings h t r.whole handed r.held id how text rest front fits in
         record { whole = step; sides = ended_sides h t r.whole r.sides id how text rest front step }
     keeping (ops.Remove id) rest front other fits framed =
-        let step = remove_kept_whole t.settings h t r.whole handed id rest front fits in
+        let step = remove_kept_whole t.settings h t r.whole handed r.held id rest front fits in
         record { whole = step; sides = removed_sides h t r.whole r.sides id rest front step }
 
     -- the operation that is with the store is kept
@@ -157,6 +153,8 @@ module _ (h : History) (t : Tables) (r : LifeInvariant h t) where
               on_way = kept_on_way t.settings h t r.whole.keeps r.on_way op rest front other s;
               apart = step_apart t.settings h t _ s.next _ s.step r.apart;
               begun = stays.begun r.begun;
+              held = held_after h t r (KeptEntry op) s.next (kept op t) s.step;
+              around = kept_around h t r.whole r.around r.fits op rest front other s k.sides.firsts;
             };
             stays = stays;
           };

@@ -9,6 +9,7 @@ pub mod messages
 pub mod auxiliary
 pub mod bounds
 pub mod measure
+pub mod Held
 pub mod Staying
 pub mod EventsPreserve
 pub mod KeptPreserve

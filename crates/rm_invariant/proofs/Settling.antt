@@ -63,6 +63,8 @@ settled_runs h t r n =
         retired = s.retired;
       };
       fits = r.fits;
+      held = r.held;
+      around = record { agrees = record { firsts = r.around.agrees.firsts; departed = r.around.agrees.departed; pending = r.around.agrees.pending; numbers = r.around.agrees.numbers; late = r.around.agrees.late }; told = r.around.told };
       ranged = r.ranged;
       reported = r.reported;
       on_way = still_on_way h (settled h) t t refl refl refl r.on_way;

@@ -126,7 +126,7 @@ module _ (t : Tables) where
       shape : SchedShape t (sched_step e list t)
       shape = sched_shape t list e
 
-      by : {X : Type 0} (part : Tables → X) → part next ≡ part (record t { rows = next.rows; nodes = next.nodes; book = next.book; main = next.main; asks = next.asks })
+      by : {X : Type 0} (part : Tables → X) → part next ≡ part (record t { rows = next.rows; nodes = next.nodes; book = next.book; main = next.main; asks = next.asks; departed = next.departed })
       by part = ap part shape.rest
 
   -- WHAT IS KEPT
@@ -189,5 +189,5 @@ module _ (t : Tables) where
       shape = message_shape t message reply
 
       by : {X : Type 0} (part : Tables → X)
-          → part next ≡ part (record t { rows = next.rows; nodes = next.nodes; book = next.book; asks = next.asks; going = next.going; given = next.given; clock = next.clock; main = next.main; sched = next.sched })
+          → part next ≡ part (record t { rows = next.rows; nodes = next.nodes; book = next.book; asks = next.asks; going = next.going; given = next.given; clock = next.clock; main = next.main; sched = next.sched; pending = next.pending })
       by part = ap part shape.rest

@@ -1,5 +1,5 @@
 -- Each move brings the state of an application, and that of its current attempt, along a row of its table, or leaves it.
-use Rattle.rm_invariant.proofs.Common.{◌≡◌, ◌⊎◌, inl, inr, ℕ, ◌+◌, length, arith, List, [], ◌∷◌, ◌++◌, Bool, true, false, Option, None, Some, fold, refl, sym, ◌∙◌, ap, subst, Closing, Grant, Entry, AppId, AttemptId, ContainerId, How, Op, is_app, ClientAsk, ClockAsk, MasterAsk, NodeAsk, Reply, dialogue_begun, registered_row, said_row, told_row, with_answer, with_text, without_closings, after_client, submitted_row, after_master, after_clock, after_node, Settings, same_app, attempts_in, found_in, next_in, AppState, next_app_state, AttemptState, AttemptChange, RowChange, MainEvent, SchedEvent, AppRow, Current, Tables, main_worked, sched_worked, after_failure, attempt_after, changed, current_after, granted, granted_at, kept, closed_in, main_step, rows_after_grant, row_of, with_row, sched_step, closings_for, History, Message}
+use Rattle.rm_invariant.proofs.Common.{◌≡◌, ◌⊎◌, inl, inr, ℕ, ◌+◌, length, arith, List, [], ◌∷◌, ◌++◌, Bool, true, false, Option, None, Some, fold, refl, sym, ◌∙◌, ap, subst, Grant, Entry, AppId, AttemptId, ContainerId, How, Op, is_app, ClientAsk, ClockAsk, MasterAsk, NodeAsk, Reply, dialogue_begun, registered_row, said_row, told_row, with_answer, with_text, without_closings, after_client, submitted_row, after_master, after_clock, after_node, Settings, same_app, attempts_in, found_in, next_in, AppState, next_app_state, AttemptState, AttemptChange, RowChange, MainEvent, SchedEvent, AppRow, Current, Tables, main_worked, sched_worked, after_failure, attempt_after, changed, current_after, granted, granted_at, kept, closed_in, main_step, rows_after_grant, row_of, with_row, sched_step, closings_for, History, Message}
 use Rattle.std.proofs.Common.{option_map}
 use Rattle.rm_types.specs.declared.operations.How.TheVariants as ways
 use Rattle.rm_types.specs.declared.operations.Op.TheVariants as ops
@@ -34,6 +34,7 @@ use Rattle.rm_types.specs.declared.messages.Message.TheVariants as messages
 use Rattle.rm_invariant.specs.messages.Outcomes.{MessageOutcome, after_message}
 use Rattle.rm_invariant.specs.messages.Outcomes as comes
 use Rattle.rm_invariant.proofs.messages.Outcomes.{message_outcome}
+use Rattle.rm_types.specs.declared.containers.ClosingOf.{ClosingOf}
 
 -- ONE ROW
 
@@ -144,7 +145,7 @@ one_goes f id rows goes q before now there then = by (is_app id q) (sym (ap (cha
     by false e = let same : before ≡ now = cc in subst (RowFollowsTables before) same (row_stays before)
 
 -- endings are to be told
-told_goes : (closings : List Closing) (rows : List (AppId × Option AppRow)) → RowsFollowTables rows (closed_in rows closings)
+told_goes : (closings : List ClosingOf) (rows : List (AppId × Option AppRow)) → RowsFollowTables rows (closed_in rows closings)
 told_goes closings rows q before now there then = by (sym (ap (option_map (telling_more (closings_for closings q))) there) ∙ sym (rows_told closings rows q) ∙ then)
   where
     by : Some (telling_more (closings_for closings q) before) ≡ Some now → RowFollowsTables before now
@@ -349,12 +350,12 @@ module _ (t : Tables) where
       by message reply next (comes.joins user id submission found) = more_goes id (submitted_row submission) t.rows
       by message reply next (comes.wishes user id row found new) = one_goes (changed of_app.Wish) id t.rows (changed_goes of_app.Wish refl)
       by message reply next (comes.registers attempt answer so) =
-          one_goes (registered_row (dialogue_begun answer)) attempt.app t.rows (λ row. talked_goes row (changed of_app.Register row) (registered_row (dialogue_begun answer) row) (changed_goes of_app.Register refl row) refl refl)
+          one_goes (registered_row (dialogue_begun answer t.book.added)) attempt.app t.rows (λ row. talked_goes row (changed of_app.Register row) (registered_row (dialogue_begun answer t.book.added) row) (changed_goes of_app.Register refl row) refl refl)
       by message reply next (comes.finishes attempt text goes) =
           one_goes (said_row (with_text text)) attempt.app t.rows (λ row. talked_goes row (changed (of_app.OfAttempt of_attempt.Finish) row) (said_row (with_text text) row) (changed_goes (of_app.OfAttempt of_attempt.Finish) refl row) refl refl)
       by message reply next (comes.allocates attempt id asks release answer so new) =
-          one_goes (told_row (with_answer (id + 1) answer) (without_closings attempt)) attempt.app t.rows
-          (λ row. talked_goes row row (told_row (with_answer (id + 1) answer) (without_closings attempt) row) (row_stays row) refl refl)
+          one_goes (told_row (with_answer (id + 1) answer t.book.added) (without_closings attempt)) attempt.app t.rows
+          (λ row. talked_goes row row (told_row (with_answer (id + 1) answer t.book.added) (without_closings attempt) row) (row_stays row) refl refl)
       by message reply next _ = still
 
   pub client_goes : (ask : ClientAsk) (reply : Reply) → RowsFollowTables t.rows (after_client ask reply t).rows

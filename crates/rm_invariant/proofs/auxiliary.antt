@@ -6,4 +6,9 @@ pub mod MainEvents
 pub mod SchedEvents
 pub mod KeptOps
 pub mod Messages
+pub mod AroundBook
+pub mod Around
+pub mod AroundEvents
+pub mod AroundKept
+pub mod AroundMessages
 pub mod Facts

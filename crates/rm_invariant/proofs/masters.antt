@@ -9,7 +9,7 @@ pub mod Held
 pub mod Talking
 pub mod Sounding
 pub mod Apt
-pub mod Over
+pub mod Stale
 pub mod AwaitingAttempts
 pub mod KeptAttempts
 pub mod Granted
@@ -34,3 +34,4 @@ pub mod Others
 pub mod AppEvents
 pub mod KeptApps
 pub mod Allocating
+pub mod Clean

@@ -6,6 +6,7 @@ use Rattle.rm_types.specs.declared.settings.Settings.{Settings}
 use Rattle.rm_tables.specs.declared.tables.Tables.{Tables}
 use Rattle.rm_invariant.specs.Step.{AppsInvariant, Step}
 use Rattle.rm_refinement.specs.History.{History, abstract_life}
+use Rattle.rm_invariant.specs.events.Here.{astray_at}
 use Rattle.rm_invariant.specs.nodes.Invariant.{NodesInvariant}
 use Rattle.rm_invariant.specs.nodes.Book.{BookInvariant}
 use Rattle.rm_invariant.specs.masters.Invariant.{ContainersInvariant}
@@ -22,7 +23,7 @@ pub record CoreInvariant (settings : Settings) (h : History) (t : Tables) : Type
   pub marks : ContainersInvariant h t
   pub sound : RecordsAreSound t.tree.apps
   pub agrees : Refines (abstract_life h t) t
-  pub nodes : NodesInvariant h.nodes h.book t.sched
+  pub nodes : NodesInvariant (astray_at settings h t) h.nodes h.book t.sched
   pub book : BookInvariant (abstract_life h t) Nothing
 
 -- a step that keeps all of it, which goes to some history

@@ -1,15 +1,18 @@
 -- All that holds of an open life between two moves. This project's own.
-use Rattle.std.specs.Prelude.{◌≡◌, ◌≢◌, [], Bool, true, false}
+use Rattle.std.specs.Prelude.{◌≡◌, ◌≢◌, [], Bool, true, false, Some}
 use Rattle.std.specs.List.{list_any}
 use Rattle.rm_model.specs.Facts.{is_epoch_op}
 use Rattle.rm_tables.specs.declared.events.MainEvent.{MainEvent}
 use Rattle.rm_tables.specs.declared.events.MainEvent.TheVariants as mains
 use Rattle.rm_tables.specs.declared.tables.Tables.{Tables}
-use Rattle.rm_refinement.specs.History.{History}
+use Rattle.rm_refinement.specs.History.{History, abstract_life}
+use Rattle.rm_types.specs.declared.ids.ContainerId.{ContainerId}
+use Rattle.rm_laws.specs.FirstAttempts.{FirstStays}
 use Rattle.rm_invariant.specs.Core.{CoreInvariant}
 use Rattle.rm_invariant.specs.messages.Ranges.{KeepsLimits}
 use Rattle.rm_invariant.specs.messages.Fits.{EachRowFits}
 use Rattle.rm_invariant.specs.messages.Released.{ReleasesOnWay}
+use Rattle.rm_invariant.specs.auxiliary.Around.{AroundInvariant}
 use Rattle.rm_invariant.specs.auxiliary.Invariant.{AuxInvariant}
 use Rattle.rm_invariant.specs.measure.Reports.{FewReported}
 use Rattle.rm_invariant.specs.bounds.InBounds.{InBounds}
@@ -54,3 +57,5 @@ pub record LifeInvariant (h : History) (t : Tables) : Type 0 where
   pub on_way : ReleasesOnWay h t
   pub apart : NamesApart h.nodes
   pub begun : NoneOpens t
+  pub around : AroundInvariant h t
+  pub held : (c : ContainerId) → FirstStays c.attempt h.kept (Some (abstract_life h t))

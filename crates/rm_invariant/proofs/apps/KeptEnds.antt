@@ -1,5 +1,5 @@
 -- The end of an attempt and the end of an application once they are kept, each as a whole step.
-use Rattle.rm_invariant.proofs.Common.{◌≡◌, ◌≤◌, ℕ, ◌||◌, ◌&&◌, suc, List, [], ◌∷◌, ◌++◌, Bool, true, false, Option, None, Some, length, map, drop, refl, ◌∙◌, ap, subst, arith, list_all, nat_tests, AppId, AttemptId, How, Op, AppRecord, AttemptRecord, Settings, is_app, is_attempt, all_ended, is_some_and, last_attempt, record_of, with_end, same_app, app_itself, asks_without, attempts_in, end_in, AppState, AttemptState, SchedEvent, AppRow, Current, Tables, changed, dropped_at, dropped_by, dropped_of, kept, row_of, History}
+use Rattle.rm_invariant.proofs.Common.{◌≡◌, ◌≤◌, ℕ, ◌||◌, ◌&&◌, suc, List, [], ◌∷◌, ◌++◌, Bool, true, false, Option, None, Some, length, map, drop, refl, ◌∙◌, ap, subst, arith, list_all, nat_tests, AppId, AttemptId, How, Op, AppRecord, AttemptRecord, Settings, is_app, is_attempt, all_ended, is_some_and, last_attempt, record_of, with_end, same_app, app_itself, asks_without, attempts_in, end_in, AppState, AttemptState, SchedEvent, AppRow, Current, Tables, changed, removed_at, removed_by, removed_of, kept, row_of, History, removed_if}
 use Rattle.std.proofs.Common.{◌==◌, is_some, option_map}
 use Rattle.std.proofs.lemmas.List.{append-nil}
 use Rattle.rm_types.specs.declared.entries.Entry.TheVariants.{Kept as KeptEntry}
@@ -25,6 +25,8 @@ use Rattle.rm_invariant.specs.apps.Ends.{none_if}
 use Rattle.rm_invariant.proofs.apps.Asked.{asks_gone}
 use Rattle.rm_invariant.proofs.apps.AtStates.{attempt_ended, end_saved}
 use Rattle.rm_invariant.proofs.apps.Recorded.{record_changed}
+use Rattle.rm_model.specs.Facts.{keeps}
+use Rattle.rm_types.specs.Records.{recorded}
 
 -- what an AttemptEnd that awaits says of the row of its application
 pub record EndAwaits (settings : Settings) (q : AttemptId) (row : Option AppRow) (v : View) : Type 0 where
@@ -189,22 +191,27 @@ module _ (settings : Settings) (h : History) (t : Tables) (k : AppsInvariant set
   app_over = record h { kept = h.kept ++ ops.AppEnd id how text ∷ [] }
 
   -- that the scheduler is to end containers counts for nothing in a view
-  dropped_counts : (m : Tables) (q : AttemptId) (row : Option AppRow) → counts app_over (record m { sched = m.sched ++ dropped_by row id }) q ≡ counts app_over m q
-  dropped_counts m q None = uncounted [] refl
+  removed_counts : (m : Tables) (q : AttemptId) (keep : Bool) (row : Option AppRow) → counts app_over (record m { sched = m.sched ++ removed_by row keep id }) q ≡ counts app_over m q
+  removed_counts m q keep None = uncounted [] refl
     where
       uncounted : (events : List SchedEvent) → events ≡ [] → counts app_over (record m { sched = m.sched ++ events }) q ≡ counts app_over m q
       uncounted events e = rw (e, append-nil m.sched) refl
-  dropped_counts m q (Some row) = by row.current
+  removed_counts m q keep (Some row) = by row.current
     where
       none : counts app_over (record m { sched = m.sched ++ [] }) q ≡ counts app_over m q
       none = rw (append-nil m.sched) refl
 
-      by : (c : Option Current) → counts app_over (record m { sched = m.sched ++ dropped_of c id }) q ≡ counts app_over m q
+      by : (c : Option Current) → counts app_over (record m { sched = m.sched ++ removed_of c keep id }) q ≡ counts app_over m q
       by None = none
       by (Some current) = at_state current.state
         where
-          at_state : (s : AttemptState) → counts app_over (record m { sched = m.sched ++ dropped_at s (record { app = id; number = current.number }) }) q ≡ counts app_over m q
+          at_state : (s : AttemptState) → counts app_over (record m { sched = m.sched ++ removed_at s keep (record { app = id; number = current.number }) }) q ≡ counts app_over m q
           at_state attempts.Dropped = sched_end app_over m q (scheds.AttemptRemoved (record { app = id; number = current.number }))
+          at_state attempts.Ended = if_kept keep
+            where
+              if_kept : (b : Bool) → counts app_over (record m { sched = m.sched ++ removed_if b (record { app = id; number = current.number }) }) q ≡ counts app_over m q
+              if_kept true = sched_end app_over m q (scheds.AttemptRemoved (record { app = id; number = current.number }))
+              if_kept false = none
           at_state _ = none
 
   pub app_end_kept_steps : t.handed ≡ true → Step settings h t (KeptEntry (ops.AppEnd id how text)) app_over (kept (ops.AppEnd id how text) t)
@@ -220,7 +227,7 @@ module _ (settings : Settings) (h : History) (t : Tables) (k : AppsInvariant set
       (record { handed = handed; first = rw front refl }) refl (recorded_more settings h t k (ops.AppEnd id how text)) k.is_open awaits.is (λ q. row_changed (changed (of_app.KeepEnd how)) id q t.rows)
       (λ q. op_taken h t q (ops.AppEnd id how text) rest front)
       (λ q.
-      let dropped = dropped_counts (record past { ended = t.ended ++ id ∷ []; main = t.main ++ mains.Retire ∷ [] }) q (row_of t.rows id) in
+      let dropped = removed_counts (record past { ended = t.ended ++ id ∷ []; main = t.main ++ mains.Retire ∷ [] }) q (keeps (record_of (recorded t.tree (ops.AppEnd id how text)).apps id)) (row_of t.rows id) in
       let posted = main_end app_over (record past { ended = t.ended ++ id ∷ [] }) q mains.Retire in
       let found = record_changed (with_end_at how text t.tree.applied) (λ one. refl) id q.app t.tree.apps in
       rw (dropped ∙ posted, at_end (λ one. is_app one q.app) t.ended id, found) refl)

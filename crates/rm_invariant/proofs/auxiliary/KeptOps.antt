@@ -1,5 +1,5 @@
 -- Each operation but an Epoch, once it is kept in an open life, keeps what else holds of it.
-use Rattle.rm_invariant.proofs.Common.{◌≡◌, ◌≤◌, inl, inr, ℕ, ◌+◌, ◌-◌, suc, List, [], ◌∷◌, ◌++◌, Bool, true, false, not, ◌&&◌, ◌||◌, Option, None, Some, drop, filter, length, map, is_none, refl, sym, ◌∙◌, ap, subst, arith, flat_map, list_any, false≢true, and_parts, nat_tests, flat_map-append, lookup-set_value, AppId, AttemptId, ContainerId, How, Op, Submission, AppRecord, Settings, is_app, is_attempt, new_record, record_of, with_end, with_record, same_attempt, same_app, app_itself, attempt_asks, without_asks_of, end_in, has_app, is_app_op, is_finished_op, AppState, AttemptState, RowChange, MainEvent, AppRow, Current, Tables, changed, current_after, dropped_at, dropped_by, dropped_of, kept, going_in, is_empty_slot, is_retired, row_of, slot_of, with_row, without_row, finishes_by, History}
+use Rattle.rm_invariant.proofs.Common.{◌≡◌, ◌≤◌, inl, inr, ℕ, ◌+◌, ◌-◌, suc, List, [], ◌∷◌, ◌++◌, Bool, true, false, not, ◌&&◌, ◌||◌, Option, None, Some, drop, filter, length, map, is_none, refl, sym, ◌∙◌, ap, subst, arith, flat_map, list_any, false≢true, and_parts, nat_tests, flat_map-append, lookup-set_value, AppId, AttemptId, ContainerId, How, Op, Submission, AppRecord, Settings, is_app, is_attempt, new_record, record_of, with_end, with_record, same_attempt, same_app, app_itself, attempt_asks, without_asks_of, end_in, has_app, is_app_op, is_finished_op, AppState, AttemptState, RowChange, MainEvent, AppRow, Current, Tables, changed, current_after, removed_at, removed_by, removed_of, kept, going_in, is_empty_slot, is_retired, row_of, slot_of, with_row, without_row, finishes_by, History, removed_if, found_in}
 use Rattle.std.proofs.Common.{cond, ◌==◌, count_by, is_some, option_map}
 use Rattle.std.proofs.lemmas.List.{append-nil}
 use Rattle.rm_types.specs.declared.entries.Entry.TheVariants.{Kept as KeptEntry}
@@ -41,6 +41,7 @@ use Rattle.rm_invariant.proofs.auxiliary.MainEvents.{finishes_none, less_others,
 use Rattle.rm_invariant.proofs.auxiliary.Rows.{kept_goes, goes_every, finishes_with_row, goes_on, same_with, served_append}
 use Rattle.rm_invariant.proofs.opening.Starting.{saving_number, starting_number}
 use Rattle.rm_invariant.proofs.auxiliary.Together.{aux_after, parts_changed, rows_of}
+use Rattle.rm_model.specs.Facts.{keeps}
 
 -- WHAT STAYS OF A ROW
 
@@ -99,16 +100,21 @@ completes_changed t next change id keeps ends c records applied ended settings r
         by true (Some one) = ends one
         by false o = refl
 
--- the ends of an attempt that was dropped are no release
-dropped_served : (releases : List Release) (o : Option AppRow) (id : AppId) → AreServed releases (dropped_by o id)
-dropped_served releases None id = tt
-dropped_served releases (Some row) id = by row.current
+-- what is posted of containers that no attempt has any more is no release
+removed_served : (releases : List Release) (o : Option AppRow) (keep : Bool) (id : AppId) → AreServed releases (removed_by o keep id)
+removed_served releases None keep id = tt
+removed_served releases (Some row) keep id = by row.current
   where
-    at_state : (s : AttemptState) (attempt : AttemptId) → AreServed releases (dropped_at s attempt)
+    if_so : (b : Bool) (attempt : AttemptId) → AreServed releases (removed_if b attempt)
+    if_so true attempt = tt
+    if_so false attempt = tt
+
+    at_state : (s : AttemptState) (attempt : AttemptId) → AreServed releases (removed_at s keep attempt)
     at_state attempts.Dropped attempt = tt
+    at_state attempts.Ended attempt = if_so keep attempt
     at_state _ attempt = tt
 
-    by : (c : Option Current) → AreServed releases (dropped_of c id)
+    by : (c : Option Current) → AreServed releases (removed_of c keep id)
     by None = tt
     by (Some current) = at_state current.state (record { app = id; number = current.number })
 
@@ -464,7 +470,7 @@ module _ (h : History) (t : Tables) (w : CoreInvariant t.settings h t) (sides : 
           others = λ q some. same_with (goes_by q.number) (changed ends_so) id q.app t.rows (goes_stays ends_so refl (λ c. refl) q.number) ∙ sides.others q some;
           single = sides.single;
           waits = sides.waits;
-          served = served_append h.endings.releases t.sched (dropped_by (row_of t.rows id) id) sides.served (dropped_served h.endings.releases (row_of t.rows id) id);
+          served = served_append h.endings.releases t.sched (removed_by (row_of t.rows id) (keeps (found_in (kept (ops.AppEnd id how text) t) id)) id) sides.served (removed_served h.endings.releases (row_of t.rows id) (keeps (found_in (kept (ops.AppEnd id how text) t) id)) id);
           offers = sides.offers;
           order = order_left h t w sides (ops.AppEnd id how text) rest front refl (mains.Retire ∷ []) refl;
           going = going_after (record_of t.tree.apps id) refl waits.there waits.goes;

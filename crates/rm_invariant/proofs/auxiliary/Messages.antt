@@ -1,5 +1,5 @@
 -- Each message keeps what else holds of an open life; each that is served is counted.
-use Rattle.rm_invariant.proofs.Common.{◌≡◌, ◌≤◌, inl, inr, ℕ, ◌+◌, List, [], ◌∷◌, ◌++◌, Bool, true, false, not, ◌&&◌, nat_le, Option, None, Some, filter, length, map, refl, sym, ◌∙◌, ap, subst, arith, if◌then◌else◌, flat_map, list_any, false≢true, and_parts, nat_tests, map-append, flat_map-append, Ask, Served, AppId, AttemptId, ContainerId, ClientAsk, ClockAsk, MasterAsk, Register, Finish, Allocate, NodeAsk, Submission, Reply, is_app, is_attempt, record_of, AsksOf, attempt_asks, asks_set, is_for, renewed_ask, all_asked, after, has_app, is_known, Scene, is_alive, MainEvent, SchedEvent, AppRow, Current, Dialogue, Tables, changed, going_in, is_retired, row_of, with_row, was_first, attempt_was_first, dialogue_begun, registered_row, said_row, told_row, with_answer, with_text, without_closings, finishes_by, lives_by, after_client, submitted_row, after_master, allocated_with, is_new_to, release_events, spoken_by, after_clock, after_node, beat_events, OnlyNodesOffer, History, abstract_life, abstract_scene, live_state, scene, is_some_and, same_attempt, same_app, is_live, client_reply, is_new_to_master, life_after_master, master_reply, register_reply, MasterState, CurrentAgrees, NumberAgrees, PlainDialogue, RowAgrees, bare_dialogue, session_of, plain_dialogue, IsAsk, Message, life_after}
+use Rattle.rm_invariant.proofs.Common.{◌≡◌, ◌≤◌, inl, inr, ℕ, ◌+◌, List, [], ◌∷◌, ◌++◌, Bool, true, false, not, ◌&&◌, nat_le, Option, None, Some, filter, length, map, refl, sym, ◌∙◌, ap, subst, arith, if◌then◌else◌, flat_map, list_any, false≢true, and_parts, nat_tests, map-append, flat_map-append, Ask, Served, AppId, AttemptId, ContainerId, ClientAsk, ClockAsk, MasterAsk, Register, Finish, Allocate, NodeAsk, Submission, Reply, is_app, is_attempt, record_of, AsksOf, attempt_asks, asks_set, is_for, renewed_ask, all_asked, after, has_app, is_known, Scene, is_alive, MainEvent, SchedEvent, AppRow, Current, Dialogue, Tables, changed, going_in, is_retired, row_of, with_row, was_first, attempt_was_first, dialogue_begun, registered_row, said_row, told_row, with_answer, with_text, without_closings, finishes_by, lives_by, after_client, submitted_row, after_master, allocated_with, is_new_to, release_events, spoken_by, after_clock, after_node, beat_events, OnlyNodesOffer, History, abstract_life, abstract_scene, live_state, scene, is_some_and, same_attempt, same_app, is_live, client_reply, is_new_to_master, life_after_master, master_reply, register_reply, MasterState, CurrentAgrees, NumberAgrees, PlainDialogue, RowAgrees, bare_dialogue, session_of, plain_dialogue, IsAsk, Message, life_after, BookOf}
 use Rattle.std.proofs.Common.{◌==◌, nat_lt, count_by, length-append, is_some, option_map}
 use Rattle.std.proofs.lemmas.List.{append_assoc, append-nil}
 use Rattle.rm_types.specs.declared.messages.ClientAsk.TheVariants as clients
@@ -51,6 +51,7 @@ use Rattle.rm_invariant.specs.messages.LifeOutcomes.{LifeOutcome}
 use Rattle.rm_invariant.specs.messages.LifeOutcomes as lives
 use Rattle.rm_invariant.proofs.messages.LifeOutcomes.{life_outcome}
 use Rattle.rm_invariant.proofs.messages.Outcomes.{message_outcome, registers_live}
+use Rattle.rm_master.specs.Answers.{handed_by}
 
 -- WHERE THE ROWS AND WHAT IS ASKED FOR STAY
 
@@ -378,6 +379,11 @@ module _ (h : History) (t : Tables) (sides : AuxInvariant h t) (n : ℕ) where
           at_test true lives e = lives_found attempt (Some row) found lives
           at_test false lives e = absurd (false≢true (sym none ∙ (let x = rw lives at e in x)))
 
+  -- what is handed over stands where it stood
+  handed_nodes : (reply : Reply) (book : BookOf) → (handed_by reply book).nodes ≡ book.nodes
+  handed_nodes (replies.Took kept) book = refl
+  handed_nodes _ book = refl
+
   -- a change of the row of an attempt that lives, after which it lives too
   module _ (attempt : AttemptId) (lives : Lives attempt) (f : AppRow → AppRow) (first : (row : AppRow) → (f row).first ≡ row.first) (d : Current) (now : (f lives.row).current ≡ Some d)
       (number : d.number ≡ lives.current.number) (alive : is_alive d.state ≡ true) (flag : d.finished ≡ lives.current.finished) (silent : IsSilent (f lives.row).current (f lives.row).dialogue) where
@@ -398,21 +404,21 @@ module _ (h : History) (t : Tables) (sides : AuxInvariant h t) (n : ℕ) where
         (record { silent = λ s. silent; unfinished = λ u. (let early = rw c at u in rw now (λ o. flag ∙ early (alive_over t lives.current.state lives.alive))) })
 
     talked_sides : (g : History) (next : Tables) → next.rows ≡ with_row f attempt.app t.rows → fixed_parts g ≡ fixed_parts h → (more : List MainEvent) → next.main ≡ t.main ++ more → flat_map starting more ≡ []
-        → next ≡ record t { rows = next.rows; main = next.main; served = next.served } → AuxInvariant g next
-    talked_sides g next rows same more main starts rest =
+        → next.book.nodes ≡ t.book.nodes → next ≡ record t { rows = next.rows; main = next.main; served = next.served; book = next.book } → AuxInvariant g next
+    talked_sides g next rows same more main starts offer rest =
         subst (AuxInvariant g) (sym rest)
-        (aux_of h g t (record t { rows = next.rows; main = next.main; served = next.served }) h.apps.retired h.apps.submitted h.endings.releases same
+        (aux_of h g t (record t { rows = next.rows; main = next.main; served = next.served; book = next.book }) h.apps.retired h.apps.submitted h.endings.releases same
         (record {
           rows = rw rows (parts_with f attempt.app t.rows first talked_stays (rows_of h t sides));
-          completes = completes_still t (record t { rows = next.rows; main = next.main; served = next.served }) sides.completes refl refl refl (retire_more t (record t { rows = next.rows; main = next.main; served = next.served }) more main);
+          completes = completes_still t (record t { rows = next.rows; main = next.main; served = next.served; book = next.book }) sides.completes refl refl refl (retire_more t (record t { rows = next.rows; main = next.main; served = next.served; book = next.book }) more main);
           apt = sides.apt;
           present = sides.present;
           others = rw rows (λ q some. goes_with_row f attempt.app t.rows lives.row lives.found q.number q.app (talked_goes q.number) (sides.others q some));
           single = sides.single;
           waits = sides.waits;
           served = sides.served;
-          offers = sides.offers;
-          order = more_main h t (record t { rows = next.rows; main = next.main; served = next.served }) more main starts refl sides.lists;
+          offers = rw offer sides.offers;
+          order = more_main h t (record t { rows = next.rows; main = next.main; served = next.served; book = next.book }) more main starts refl sides.lists;
           going = sides.lists.going;
           finishes = rw rows (λ q. sides.finishes q ∙ sym (finishes_with_row f attempt.app t.rows lives.row lives.found q (λ e. talked_finishes q)));
         }))
@@ -484,7 +490,7 @@ module _ (h : History) (t : Tables) (sides : AuxInvariant h t) (n : ℕ) where
   -- a new allocation
   module _ (attempt : AttemptId) (id : ℕ) (asks : List Ask) (release : List ContainerId) (reply : Reply) (ordinary : AllOrdinary asks) (lives : Lives attempt) where
     abbrev told_so : AppRow → AppRow
-    told_so = told_row (with_answer (id + 1) reply) (without_closings attempt)
+    told_so = told_row (with_answer (id + 1) reply t.book.added) (without_closings attempt)
 
     abbrev allocated_now : Tables
     allocated_now = record (allocated_with attempt id asks release reply t) { served = n }
@@ -492,7 +498,7 @@ module _ (h : History) (t : Tables) (sides : AuxInvariant h t) (n : ℕ) where
     allocated_stays : (row : AppRow) → RowStays row (told_so row)
     allocated_stays row = record { silent = by row.current; unfinished = λ u. u }
       where
-        by : (o : Option Current) → IsSilent o row.dialogue → IsSilent o (with_answer (id + 1) reply row.dialogue)
+        by : (o : Option Current) → IsSilent o row.dialogue → IsSilent o (with_answer (id + 1) reply t.book.added row.dialogue)
         by None e = tt
         by (Some c) e = λ u. let none = e u in rw none refl
 
@@ -582,8 +588,8 @@ module _ (h : History) (t : Tables) (sides : AuxInvariant h t) (n : ℕ) where
         let alive_now = register_lives lives.current.state lives.alive in
         let issued = alive_issued (next_attempt_state lives.current.state attempt_events.Register) alive_now in
         let d : Current = record lives.current { state = next_attempt_state lives.current.state attempt_events.Register; registered = true } in
-        talked_sides attempt lives (registered_row (dialogue_begun answer)) (λ r. refl) d (rw c refl) refl alive_now refl (rw c (λ e. absurd (let x = rw issued at e in cc))) g
-        (record next { served = n }) refl same [] (sym (append-nil t.main)) refl refl
+        talked_sides attempt lives (registered_row (dialogue_begun answer t.book.added)) (λ r. refl) d (rw c refl) refl alive_now refl (rw c (λ e. absurd (let x = rw issued at e in cc))) g
+        (record next { served = n }) refl same [] (sym (append-nil t.main)) refl (handed_nodes answer t.book) refl
 
     finish_comes : (text : List ℕ) (reply : Reply) (next : Tables) → MessageOutcome t (messages.Master attempt (Finish text)) reply next → (g : History) → fixed_parts g ≡ fixed_parts h → AuxInvariant g (record next { served = n })
     finish_comes text reply next (comes.idles message one) g same = idle_sides g same t.given t.clock
@@ -594,7 +600,7 @@ module _ (h : History) (t : Tables) (sides : AuxInvariant h t) (n : ℕ) where
         let issued = alive_issued (next_attempt_state lives.current.state attempt_events.Finish) alive_now in
         let d : Current = record lives.current { state = next_attempt_state lives.current.state attempt_events.Finish } in
         talked_sides attempt lives (said_row (with_text text)) (λ r. refl) d (rw c refl) refl alive_now refl (rw c (λ u. absurd (let x = rw issued at u in cc))) g
-        (record next { served = n }) refl same (mains.AttemptFinish attempt ∷ []) refl refl refl
+        (record next { served = n }) refl same (mains.AttemptFinish attempt ∷ []) refl refl refl refl
 
     -- where the tables have it that an allocation is new, so has the judge
     dialogue_new : (id : ℕ) (o : Option Dialogue) (p : Option MasterState) → option_map bare_dialogue o ≡ option_map plain_dialogue p → is_new_to id o ≡ true → is_some_and (λ (master : MasterState). id == master.last_id) p ≡ true

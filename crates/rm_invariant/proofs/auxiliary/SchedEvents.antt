@@ -15,7 +15,9 @@ use Rattle.rm_invariant.specs.events.Asking.{OthersCurrent, is_numbered_in}
 use Rattle.rm_invariant.specs.events.Masters.{MastersAskOnce, goes_in}
 use Rattle.rm_invariant.specs.events.SchedFacts.{SchedFacts}
 use Rattle.rm_invariant.specs.Core.{PreservesCore}
-use Rattle.rm_invariant.proofs.events.SchedFacts.{rest_served, sched_facts}
+use Rattle.rm_invariant.proofs.events.SchedFacts.{rest_served}
+use Rattle.rm_invariant.proofs.events.AskedEvents.{sched_apt}
+use Rattle.rm_invariant.proofs.events.Registered.{sched_registered}
 use Rattle.rm_invariant.specs.auxiliary.Invariant.{MastersSingle, OthersGo, AuxInvariant, goes_by, goes_numbered}
 use Rattle.rm_invariant.proofs.auxiliary.Rows.{same_with, still_node}
 use Rattle.rm_tables.specs.Absorbing.{absorption_step}
@@ -102,7 +104,7 @@ module _ (h : History) (t : Tables) (sides : AuxInvariant h t) (facts : SchedFac
 
   pub sched_sides : (s : PreservesCore t.settings h t (sched_worked (sched_step e list t))) → AuxInvariant s.next after_it
   sched_sides s =
-      let now = sched_facts t.settings h t facts e rest front list s in
+      let apt = sched_apt t (facts.once, facts.current, facts.apps) e list in
       let tree : after_it.tree ≡ t.tree = ap (λ (next : Tables). next.tree) shape.rest in
       let ended : after_it.ended ≡ t.ended = ap (λ (next : Tables). next.ended) shape.rest in
       let settings : after_it.settings ≡ t.settings = ap (λ (next : Tables). next.settings) shape.rest in
@@ -117,13 +119,13 @@ module _ (h : History) (t : Tables) (sides : AuxInvariant h t) (facts : SchedFac
       let served : AreServed h.endings.releases (drop 1 t.sched) = rw front (rest_served h.endings.releases e rest (subst (AreServed h.endings.releases) front sides.served)) in
       aux_after t.settings h t (sched_step e list t).0 after_it after_it s h.apps.retired h.apps.submitted h.endings.releases (sched_parts h t list e (sched_step e list t) outcome)
       (record {
-        rows = rows_keep (RowParts (abstract_scene h t) h.first h.apps.retired) (λ one rows kept. parts_with (closed one) one.id.attempt.app rows (λ row. refl) (λ row found. same_stays row (closed one row) refl refl) kept)
+        rows = rows_keep (RowParts (abstract_scene h t) h.first h.apps.retired) (λ one rows kept. parts_with (closed one) one.attempt.app rows (λ row. refl) (λ row found. same_stays row (closed one row) refl refl) kept)
             (λ id rows kept. parts_changed (of_app.OfAttempt (of_attempt.Grant id)) id.attempt.app rows (λ row found. tt) kept) t.rows after_it.rows (rows_of h t sides) shape.rows;
         completes = completes_still t after_it sides.completes tree ended settings retire;
         apt = rw tree sides.apt;
-        present = now.registered;
-        others = asks_join after_it now.once now.current;
-        single = now.once.single;
+        present = sched_registered e list t facts.registered;
+        others = asks_join after_it apt.0 apt.1;
+        single = apt.0.single;
         waits = waits ∙ sides.waits;
         served = rw sched served;
         offers = sched_offers t list sides.offers e (sched_step e list t) outcome;
@@ -131,6 +133,6 @@ module _ (h : History) (t : Tables) (sides : AuxInvariant h t) (facts : SchedFac
         going = rw (going, tree) sides.lists.going;
         finishes = λ q. ap (list_any (is_finished_op q)) awaiting
             ∙ rows_keep (λ (rows : List (AppId × Option AppRow)). list_any (is_finished_op q) t.awaiting ≡ finishes_by q (row_of rows q.app))
-            (λ one rows before. before ∙ sym (same_with (finishes_by q) (closed one) one.id.attempt.app q.app rows (λ row. refl)))
+            (λ one rows before. before ∙ sym (same_with (finishes_by q) (closed one) one.attempt.app q.app rows (λ row. refl)))
             (λ id rows before. before ∙ sym (same_with (finishes_by q) (changed (of_app.OfAttempt (of_attempt.Grant id))) id.attempt.app q.app rows (granted_finishes id q))) t.rows after_it.rows (sides.finishes q) shape.rows;
       })

@@ -6,6 +6,10 @@ use Rattle.std.specs.List.{AllByRecursion}
 use Rattle.std.proofs.lemmas.List.Elements.{recursion_from_All}
 use Rattle.rm_book.specs.Books.{is_node, book_row as book_row_of, with_capability, with_state}
 use Rattle.rm_tables.specs.Absorbing.{booked_at, reported_in}
+use Rattle.rm_types.specs.Containers.{is_granted}
+use Rattle.rm_types.specs.declared.replies.Reply.{Reply}
+use Rattle.rm_types.specs.declared.replies.Reply.TheVariants.{Took}
+use Rattle.rm_master.specs.Answers.{handed_by, handed_row, ids_granted}
 use Rattle.rm_tracker.specs.Answers.{brought_all, brought_one}
 use Rattle.rm_invariant.specs.nodes.Book.{All}
 use Rattle.rm_invariant.proofs.nodes.Holds.{all_append, all_filter, all_map}
@@ -43,6 +47,11 @@ booked_state state row own = record { id = own.id; node = own.node; size = own.s
 pub booked_acquired : (told : List ContainerId) (book : BookOf) → All IsBooked book.rows → All IsBooked (acquired told book).rows
 booked_acquired told book all = all_map IsBooked IsBooked (acquired_row told) (λ row own. booked_state (if has_container told row.id then Acquired else row.state) row own) book.rows all
 
+pub booked_handed : (reply : Reply) (book : BookOf) → All IsBooked book.rows → All IsBooked (handed_by reply book).rows
+booked_handed (Took kept) book all =
+    all_map IsBooked IsBooked (handed_row (ids_granted kept)) (λ row own. booked_state (if has_container (ids_granted kept) row.id && is_granted row.state then Acquired else row.state) row own) book.rows all
+booked_handed _ book all = all
+
 booked_brought : (passes : BookRow → Bool) (state : ContainerState) (book : BookOf) (id : ContainerId) → All IsBooked book.rows → All IsBooked (brought_one passes state book id).rows
 booked_brought passes state book id all = by (is_some_and passes (book_row_of book id))
   where
@@ -70,6 +79,10 @@ offers_brought passes state (id ∷ ids) book all = offers_brought passes state 
     by : (b : Bool) → All IsOffer (if b then with_state book id state else book).nodes
     by true = all
     by false = all
+
+pub offers_handed : (reply : Reply) (book : BookOf) → All IsOffer book.nodes → All IsOffer (handed_by reply book).nodes
+offers_handed (Took kept) book all = all
+offers_handed _ book all = all
 
 pub offers_beaten : (name : List ℕ) (running launched : List ContainerId) (book : BookOf) → All IsOffer book.nodes → All IsOffer (beaten_book name running launched book).nodes
 offers_beaten name running launched book all =

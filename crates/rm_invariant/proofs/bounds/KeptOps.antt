@@ -1,7 +1,8 @@
 -- Each operation that is kept keeps what is in its range, and so does the store's part of a life.
-use Rattle.rm_invariant.proofs.Common.{◌≡◌, ◌-◌, ℕ, List, [], ◌∷◌, ◌++◌, Bool, true, false, Option, None, Some, drop, refl, sym, subst, arith, if◌then◌else◌, AppId, AttemptId, How, Op, AppRecord, AttemptRecord, IsAppId, IsOperation, last_attempt, AttemptState, AsksOf, without_asks_of, MainEvent, SchedEvent, AppRow, Current, Tables, changed, dropped_at, dropped_by, dropped_of, kept, handed_out, opening_main, opening_sched, sched_by, sched_of, row_of, with_row, without_row}
+use Rattle.rm_invariant.proofs.Common.{◌≡◌, ◌-◌, ℕ, List, [], ◌∷◌, ◌++◌, Bool, true, false, Option, None, Some, drop, refl, sym, subst, arith, if◌then◌else◌, AppId, AttemptId, How, Op, AppRecord, AttemptRecord, IsAppId, IsOperation, last_attempt, AttemptState, AsksOf, without_asks_of, MainEvent, SchedEvent, AppRow, Current, Tables, changed, removed_at, removed_by, removed_of, kept, handed_out, opening_main, opening_sched, sched_by, sched_of, row_of, with_row, without_row, removed_if, ◌&&◌, not, found_in}
 use Rattle.std.proofs.Common.{count_by, is_some}
 use Rattle.rm_types.specs.declared.operations.Op.TheVariants as ops
+use Rattle.rm_states.specs.declared.attempt.states.AttemptState.TheVariants as attempts
 use Rattle.rm_tables.specs.declared.changes.AttemptChange.TheVariants as of_attempt
 use Rattle.rm_tables.specs.declared.changes.RowChange.TheVariants as of_app
 use Rattle.rm_tables.specs.declared.events.MainEvent.TheVariants as mains
@@ -14,6 +15,7 @@ use Rattle.rm_invariant.specs.bounds.InBounds.{AreAsked, AreGrants, AreRows, InB
 use Rattle.rm_invariant.proofs.bounds.AskRanges.{asked_without}
 use Rattle.rm_invariant.proofs.bounds.RowRanges.{NoMoreGranted, grants_changed, grants_gone, grants_less, rows_changed, rows_gone}
 use Rattle.rm_invariant.proofs.bounds.TreeRanges.{records_after}
+use Rattle.rm_model.specs.Facts.{keeps}
 
 -- more events that make no pass
 pub more_events : (rows now : List (AppId × Option AppRow)) (sched more : List SchedEvent) (served : ℕ) → count_by is_update more ≡ 0 → NoMoreGranted rows now → AreGrants rows sched served → AreGrants now (sched ++ more) served
@@ -22,28 +24,33 @@ more_events rows now sched more served none less are =
     grants_less rows now sched (sched ++ more) served served less (omega (arith, both, none)) (omega arith) are
 
 -- an AppEnd posts no pass, nor does a life that opens
-none_dropped : (o : Option AppRow) (id : AppId) → count_by is_update (dropped_by o id) ≡ 0
-none_dropped None id = refl
-none_dropped (Some row) id = by row.current
+none_removed : (o : Option AppRow) (keep : Bool) (id : AppId) → count_by is_update (removed_by o keep id) ≡ 0
+none_removed None keep id = refl
+none_removed (Some row) keep id = by row.current
   where
-    at : (s : AttemptState) (one : AttemptId) → count_by is_update (dropped_at s one) ≡ 0
+    if_so : (b : Bool) (one : AttemptId) → count_by is_update (removed_if b one) ≡ 0
+    if_so true one = refl
+    if_so false one = refl
+
+    at : (s : AttemptState) (one : AttemptId) → count_by is_update (removed_at s keep one) ≡ 0
+    at attempts.Ended one = if_so keep one
     at s one = grind arith
 
-    by : (o : Option Current) → count_by is_update (dropped_of o id) ≡ 0
+    by : (o : Option Current) → count_by is_update (removed_of o keep id) ≡ 0
     by None = refl
     by (Some current) = at current.state (record { app = id; number = current.number })
 
 none_opens : (apps : List AppRecord) → count_by is_update (opening_sched apps) ≡ 0
-none_opens apps = none_among sched_of is_update (λ one. by one.ending (last_attempt one.attempts) one.id) apps
+none_opens apps = none_among sched_of is_update (λ one. by one.ending (last_attempt one.attempts) one.submission.keep one.id) apps
   where
     at : (b : Bool) (id : AttemptId) → count_by is_update (if b then [] else scheds.AttemptRecovered id ∷ []) ≡ 0
     at true id = refl
     at false id = refl
 
-    by : (end : Option (How × List ℕ)) (last : Option AttemptRecord) (id : AppId) → count_by is_update (sched_by end last id) ≡ 0
-    by (Some end) last id = refl
-    by None None id = refl
-    by None (Some last) id = at (is_some last.ending) (record { app = id; number = last.id.number })
+    by : (end : Option (How × List ℕ)) (last : Option AttemptRecord) (keep : Bool) (id : AppId) → count_by is_update (sched_by end last keep id) ≡ 0
+    by (Some end) last keep id = refl
+    by None None keep id = refl
+    by None (Some last) keep id = at (is_some last.ending && not keep) (record { app = id; number = last.id.number })
 
 module _ (t : Tables) (r : InBounds t) (op : Op) (rest : List Op) (front : t.awaiting ≡ op ∷ rest) where
   awaited : All IsOperation (op ∷ rest)
@@ -105,9 +112,9 @@ kept_ranged t r (ops.AttemptEnd id how text) rest front =
     (asked_without id t.asks r.asks) r.ended
 kept_ranged t r (ops.AppEnd id how text) rest front =
     let is = awaited t r (ops.AppEnd id how text) rest front in
-    parts t r (ops.AppEnd id how text) rest front (with_row (changed (of_app.KeepEnd how)) id t.rows) t.asks (t.ended ++ id ∷ []) (t.going - 1) (t.main ++ mains.Retire ∷ []) (t.sched ++ dropped_by (row_of t.rows id) id)
+    parts t r (ops.AppEnd id how text) rest front (with_row (changed (of_app.KeepEnd how)) id t.rows) t.asks (t.ended ++ id ∷ []) (t.going - 1) (t.main ++ mains.Retire ∷ []) (t.sched ++ removed_by (row_of t.rows id) (keeps (found_in (kept (ops.AppEnd id how text) t) id)) id)
     (rows_changed (of_app.KeepEnd how) id t.rows tt r.rows)
-    (more_events t.rows (with_row (changed (of_app.KeepEnd how)) id t.rows) t.sched (dropped_by (row_of t.rows id) id) t.served (none_dropped (row_of t.rows id) id) (grants_changed (of_app.KeepEnd how) id t.rows refl) r.grants) r.asks
+    (more_events t.rows (with_row (changed (of_app.KeepEnd how)) id t.rows) t.sched (removed_by (row_of t.rows id) (keeps (found_in (kept (ops.AppEnd id how text) t) id)) id) t.served (none_removed (row_of t.rows id) (keeps (found_in (kept (ops.AppEnd id how text) t) id)) id) (grants_changed (of_app.KeepEnd how) id t.rows refl) r.grants) r.asks
     (all_append IsAppId t.ended (id ∷ []) r.ended (is.0.0, tt))
 kept_ranged t r (ops.Remove id) rest front =
     parts t r (ops.Remove id) rest front (without_row id t.rows) t.asks t.ended t.going t.main t.sched (rows_gone id t.rows r.rows)

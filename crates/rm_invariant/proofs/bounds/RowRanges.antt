@@ -1,5 +1,5 @@
 -- The rows of applications stay in their ranges by each change, and nothing more is granted by any but a grant.
-use Rattle.rm_invariant.proofs.Common.{◌≡◌, ◌≤◌, ◌^◌, ◌-◌, ◌⊎◌, inl, inr, ℕ, ◌+◌, List, [], ◌∷◌, ◌++◌, Bool, true, false, Option, None, Some, refl, sym, ◌∙◌, ap, subst, arith, if◌then◌else◌, Closing, AppId, AttemptId, ContainerId, Submission, Reply, Note, is_app, IsContainerId, IsText, IsWithin, same_app, AttemptState, AttemptChange, RowChange, SchedEvent, AppRow, Current, Dialogue, attempt_after, changed, current_after, granted_at, closed, closed_in, closed_one, finishing_in, granted_number, granted_to, row_in, row_of, with_row, without_row, dialogue_begun, registered_row, said_row, told_row, with_answer, with_text, without_closings}
+use Rattle.rm_invariant.proofs.Common.{◌≡◌, ◌≤◌, ◌^◌, ◌-◌, ◌⊎◌, inl, inr, ℕ, ◌+◌, List, [], ◌∷◌, ◌++◌, Bool, true, false, Option, None, Some, refl, sym, ◌∙◌, ap, subst, arith, if◌then◌else◌, AppId, AttemptId, ContainerId, Submission, Reply, Note, is_app, IsContainerId, IsText, IsWithin, same_app, AttemptState, AttemptChange, RowChange, SchedEvent, AppRow, Current, Dialogue, attempt_after, changed, current_after, granted_at, closed, closed_in, closed_one, finishing_in, granted_number, granted_to, row_in, row_of, with_row, without_row, dialogue_begun, registered_row, said_row, told_row, with_answer, with_text, without_closings}
 use Rattle.std.proofs.Common.{◌==◌, count_by}
 use Rattle.rm_types.specs.Ranges.{IsSubmission}
 use Rattle.rm_states.specs.declared.attempt.states.AttemptState.TheVariants as attempts
@@ -10,6 +10,7 @@ use Rattle.rm_invariant.specs.apps.View.{changed_if, gone_if}
 use Rattle.rm_invariant.proofs.apps.Found.{row_changed}
 use Rattle.rm_invariant.proofs.apps.Removing.{row_gone}
 use Rattle.rm_invariant.specs.bounds.InBounds.{AreGrants, AreRows, IfThere, IsCurrent, IsRow, is_update}
+use Rattle.rm_types.specs.declared.containers.ClosingOf.{ClosingOf}
 
 -- ROWS THAT CHANGE
 
@@ -166,24 +167,24 @@ grants_changed change id rows is = grants_with (changed change) id rows (λ row 
 
 -- ENDINGS TO BE TOLD
 
-pub rows_closed : (closings : List Closing) (rows : List (AppId × Option AppRow)) → AreRows rows → AreRows (closed_in rows closings)
+pub rows_closed : (closings : List ClosingOf) (rows : List (AppId × Option AppRow)) → AreRows rows → AreRows (closed_in rows closings)
 rows_closed [] rows are = are
 rows_closed (closing ∷ closings) rows are =
     rows_closed closings (closed_one rows closing)
-    (rows_with (closed closing) closing.id.attempt.app rows (λ row found own. record { named = own.named; pending = own.pending; current = own.current; said = own.said }) are)
+    (rows_with (closed closing) closing.attempt.app rows (λ row found own. record { named = own.named; pending = own.pending; current = own.current; said = own.said }) are)
 
-pub grants_closed : (closings : List Closing) (rows : List (AppId × Option AppRow)) → NoMoreGranted rows (closed_in rows closings)
+pub grants_closed : (closings : List ClosingOf) (rows : List (AppId × Option AppRow)) → NoMoreGranted rows (closed_in rows closings)
 grants_closed [] rows q = omega arith
 grants_closed (closing ∷ closings) rows q =
-    let first = grants_with (closed closing) closing.id.attempt.app rows (λ row number. omega arith) q in
+    let first = grants_with (closed closing) closing.attempt.app rows (λ row number. omega arith) q in
     let rest = grants_closed closings (closed_one rows closing) q in
     omega (arith, first, rest)
 
 -- WHAT IS SAID TO A MASTER AND BY IT
 
-pub rows_registered : (reply : Reply) (id : AppId) (rows : List (AppId × Option AppRow)) → AreRows rows → AreRows (with_row (registered_row (dialogue_begun reply)) id rows)
-rows_registered reply id rows are =
-    rows_with (registered_row (dialogue_begun reply)) id rows (λ row found own. record { named = own.named; pending = own.pending; current = current_is of_app.Register row.current tt own.current; said = tt }) are
+pub rows_registered : (reply : Reply) (told : ℕ) (id : AppId) (rows : List (AppId × Option AppRow)) → AreRows rows → AreRows (with_row (registered_row (dialogue_begun reply told)) id rows)
+rows_registered reply told id rows are =
+    rows_with (registered_row (dialogue_begun reply told)) id rows (λ row found own. record { named = own.named; pending = own.pending; current = current_is of_app.Register row.current tt own.current; said = tt }) are
 
 pub rows_said : (text : List ℕ) → IsText Note text → (id : AppId) (rows : List (AppId × Option AppRow)) → AreRows rows → AreRows (with_row (said_row (with_text text)) id rows)
 rows_said text is id rows are =
@@ -194,25 +195,25 @@ rows_said text is id rows are =
     by None = tt
     by (Some one) = is
 
-pub rows_answered : (attempt : AttemptId) (next : ℕ) (reply : Reply) (id : AppId) (rows : List (AppId × Option AppRow)) → AreRows rows
-    → AreRows (with_row (told_row (with_answer next reply) (without_closings attempt)) id rows)
-rows_answered attempt next reply id rows are =
-    rows_with (told_row (with_answer next reply) (without_closings attempt)) id rows
+pub rows_answered : (attempt : AttemptId) (next : ℕ) (reply : Reply) (told : ℕ) (id : AppId) (rows : List (AppId × Option AppRow)) → AreRows rows
+    → AreRows (with_row (told_row (with_answer next reply told) (without_closings attempt)) id rows)
+rows_answered attempt next reply told id rows are =
+    rows_with (told_row (with_answer next reply told) (without_closings attempt)) id rows
     (λ row found own. record { named = own.named; pending = own.pending; current = own.current; said = by row.dialogue own.said }) are
   where
-    by : (o : Option Dialogue) → IfThere (IsText Note) (finishing_in o) → IfThere (IsText Note) (finishing_in (with_answer next reply o))
+    by : (o : Option Dialogue) → IfThere (IsText Note) (finishing_in o) → IfThere (IsText Note) (finishing_in (with_answer next reply told o))
     by None is = tt
     by (Some one) is = is
 
-pub grants_registered : (reply : Reply) (id : AppId) (rows : List (AppId × Option AppRow)) → NoMoreGranted rows (with_row (registered_row (dialogue_begun reply)) id rows)
-grants_registered reply id rows = grants_with (registered_row (dialogue_begun reply)) id rows (λ row number. current_less of_app.Register row.current number refl)
+pub grants_registered : (reply : Reply) (told : ℕ) (id : AppId) (rows : List (AppId × Option AppRow)) → NoMoreGranted rows (with_row (registered_row (dialogue_begun reply told)) id rows)
+grants_registered reply told id rows = grants_with (registered_row (dialogue_begun reply told)) id rows (λ row number. current_less of_app.Register row.current number refl)
 
 pub grants_said : (text : List ℕ) (id : AppId) (rows : List (AppId × Option AppRow)) → NoMoreGranted rows (with_row (said_row (with_text text)) id rows)
 grants_said text id rows = grants_with (said_row (with_text text)) id rows (λ row number. current_less (of_app.OfAttempt of_attempt.Finish) row.current number refl)
 
-pub grants_answered : (attempt : AttemptId) (next : ℕ) (reply : Reply) (id : AppId) (rows : List (AppId × Option AppRow))
-    → NoMoreGranted rows (with_row (told_row (with_answer next reply) (without_closings attempt)) id rows)
-grants_answered attempt next reply id rows = grants_with (told_row (with_answer next reply) (without_closings attempt)) id rows (λ row number. omega arith)
+pub grants_answered : (attempt : AttemptId) (next : ℕ) (reply : Reply) (told : ℕ) (id : AppId) (rows : List (AppId × Option AppRow))
+    → NoMoreGranted rows (with_row (told_row (with_answer next reply told) (without_closings attempt)) id rows)
+grants_answered attempt next reply told id rows = grants_with (told_row (with_answer next reply told) (without_closings attempt)) id rows (λ row number. omega arith)
 
 -- ROWS THAT COME AND GO
 

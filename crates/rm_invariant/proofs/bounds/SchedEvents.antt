@@ -8,6 +8,8 @@ use Rattle.rm_tables.specs.declared.changes.AttemptChange.TheVariants as of_atte
 use Rattle.rm_tables.specs.declared.changes.RowChange.TheVariants as of_app
 use Rattle.rm_tables.specs.declared.events.MainEvent.TheVariants as mains
 use Rattle.rm_tables.specs.declared.events.SchedEvent.TheVariants as scheds
+use Rattle.rm_tables.specs.ContainerSets.{with_containers}
+use Rattle.rm_tables.specs.Leaving.{departing}
 use Rattle.rm_invariant.specs.apps.View.{changed_if, one_if}
 use Rattle.rm_invariant.proofs.apps.Counts.{at_end, at_front}
 use Rattle.rm_invariant.proofs.apps.Found.{row_changed}
@@ -34,10 +36,10 @@ use Rattle.rm_invariant.proofs.events.SchedOutcomes.{sched_outcome}
 use Rattle.rm_invariant.proofs.events.SchedShapes.{here_keeps, unlaunched_keeps}
 
 -- the tables after an event of the scheduler's queue, where these parts of them may have changed
-pub worked : (t : Tables) → InBounds t → (rows : List (AppId × Option AppRow)) (asks : List AsksOf) (book : BookOf) (nodes : List (List ℕ × NodeRow)) (main : List MainEvent) (sched : List SchedEvent)
+pub worked : (t : Tables) → InBounds t → (rows : List (AppId × Option AppRow)) (asks : List AsksOf) (book : BookOf) (nodes : List (List ℕ × NodeRow)) (main : List MainEvent) (sched : List SchedEvent) (departed : List ContainerId)
     → AreRows rows → AreGrants rows sched t.served → AreAsked asks → All IsBooked book.rows → All IsOffer book.nodes → AreNodes nodes
-    → InBounds (record t { rows = rows; asks = asks; book = book; nodes = nodes; main = main; sched = sched })
-worked t r rows asks book nodes main sched are grants asked booked offers told =
+    → InBounds (record t { rows = rows; asks = asks; book = book; nodes = nodes; main = main; sched = sched; departed = departed })
+worked t r rows asks book nodes main sched departed are grants asked booked offers told =
     record {
       tree = r.tree;
       awaiting = r.awaiting;
@@ -69,20 +71,20 @@ module _ (t : Tables) (r : InBounds t) where
 
   -- an event that is no beat
   ranged_so : (list : List ContainerId) (e : SchedEvent) (done : Entry × Tables) → ((name : List ℕ) (row : NodeRow) → e ≡ scheds.NodeUpdate name → node_row t.nodes name ≡ Some row → InBounds (sched_popped (passed_with (grants_on name row t) t))) → SchedOutcome t list e done → InBounds (sched_worked done).1
-  ranged_so list e done update (outcomes.idles one nothing) = worked t r t.rows t.asks t.book t.nodes t.main (drop 1 t.sched) r.rows same_grants r.asks r.book r.offers r.nodes
-  ranged_so list e done update (outcomes.posts id) = worked t r t.rows t.asks t.book t.nodes (t.main ++ mains.AppAccepted id ∷ []) (drop 1 t.sched) r.rows same_grants r.asks r.book r.offers r.nodes
+  ranged_so list e done update (outcomes.idles one nothing) = worked t r t.rows t.asks t.book t.nodes t.main (drop 1 t.sched) t.departed r.rows same_grants r.asks r.book r.offers r.nodes
+  ranged_so list e done update (outcomes.posts id) = worked t r t.rows t.asks t.book t.nodes (t.main ++ mains.AppAccepted id ∷ []) (drop 1 t.sched) t.departed r.rows same_grants r.asks r.book r.offers r.nodes
   ranged_so list e done update (outcomes.asks id row current is state number) =
-      worked t r t.rows (master_asked id (found_in t id.app) t.asks) t.book t.nodes t.main (drop 1 t.sched) r.rows same_grants (asked_master id (found_in t id.app) t.asks (found_is t r.tree id.app) r.asks) r.book r.offers r.nodes
+      worked t r t.rows (master_asked id (found_in t id.app) t.asks) t.book t.nodes t.main (drop 1 t.sched) t.departed r.rows same_grants (asked_master id (found_in t id.app) t.asks (found_is t r.tree id.app) r.asks) r.book r.offers r.nodes
   ranged_so list e done update (outcomes.ends one cause id ids is) =
       let closings = closings_of t.tree.apps cause (id ∷ ids) in
-      worked t r (closed_in t.rows closings) t.asks (without_rows t.book (id ∷ ids)) (unlaunched t.book t.nodes (id ∷ ids)) (t.main ++ losts_of t.tree.apps (id ∷ ids)) (drop 1 t.sched)
+      worked t r (closed_in t.rows closings) t.asks (without_rows t.book (id ∷ ids)) (unlaunched t.book t.nodes (id ∷ ids)) (t.main ++ losts_of t.tree.apps (id ∷ ids)) (drop 1 t.sched) (with_containers t.departed (departing t (id ∷ ids)))
       (rows_closed closings t.rows r.rows) (popped_grants t.rows (closed_in t.rows closings) t.sched t.served (grants_closed closings t.rows) r.grants) r.asks
       (booked_without t.book (id ∷ ids) r.book) r.offers (unlaunched_keeps AreNodes (λ id. nodes_changed (Unlaunch id)) t.book (id ∷ ids) t.nodes r.nodes)
   ranged_so list e done update (outcomes.absorbs name turn row found waits) =
       let own = r.nodes.each name row found in
       let closings = closings_of t.tree.apps causes.Gone list in
       worked t r (closed_in t.rows closings) t.asks (book_with_taken t.book name row.capability (taken_in t name row) list) (with_node (changed_row Absorb) name (unlaunched_on name t.nodes list))
-      (t.main ++ losts_of t.tree.apps list) (drop 1 t.sched) (rows_closed closings t.rows r.rows) (popped_grants t.rows (closed_in t.rows closings) t.sched t.served (grants_closed closings t.rows) r.grants) r.asks
+      (t.main ++ losts_of t.tree.apps list) (drop 1 t.sched) (with_containers t.departed (departing t list)) (rows_closed closings t.rows r.rows) (popped_grants t.rows (closed_in t.rows closings) t.sched t.served (grants_closed closings t.rows) r.grants) r.asks
       (booked_taken t.book name row.capability (taken_in t name row) list own.named (held_taken t name row r.book own.running) r.book) (offers_with name row.capability t.book.nodes own.named own.size r.offers)
       (nodes_changed Absorb name (unlaunched_on name t.nodes list) (here_keeps AreNodes (λ id. nodes_changed (Unlaunch id)) name list t.nodes r.nodes))
   ranged_so list e done update (outcomes.grants name row found) = update name row refl found
@@ -186,7 +188,7 @@ module _ (settings : Settings) (h : History) (t : Tables) (w : CoreInvariant set
   -- a pass answers a beat
   update_ranged : (name : List ℕ) (rest : List SchedEvent) → t.sched ≡ scheds.NodeUpdate name ∷ rest → (row : NodeRow) → node_row t.nodes name ≡ Some row → InBounds (sched_popped (passed_with (grants_on name row t) t))
   update_ranged name rest front row found =
-      worked t r (fold rows_after_grant t.rows grants) (fold table_without_granted t.asks grants) (with_grants t.book grants) t.nodes (t.main ++ masters_granted t.rows grants) (drop 1 t.sched)
+      worked t r (fold rows_after_grant t.rows grants) (fold table_without_granted t.asks grants) (with_grants t.book grants) t.nodes (t.main ++ masters_granted t.rows grants) (drop 1 t.sched) t.departed
       (rows_granted grants t.rows ids r.rows) (record { each = λ q. let most = granted_most top grants t.rows seqs all_few q in let low = room in omega (arith, most, low) })
       (asked_granted grants t.asks r.asks) (booked_granted t.book grants (grants_are name own.named grants ids (grants_sized name row) (all_on t name row)) r.book) r.offers r.nodes
     where

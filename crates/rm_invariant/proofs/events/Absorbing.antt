@@ -16,6 +16,7 @@ use Rattle.rm_invariant.specs.events.Here.{LaunchesHere, RowsKnow, are_container
 use Rattle.rm_invariant.proofs.events.Ended.{closings_left, rows_left}
 use Rattle.rm_invariant.proofs.events.Launches.{all_here, launches_same, row_without, these_left}
 use Rattle.rm_invariant.proofs.events.Told.{masters_agree}
+use Rattle.rm_invariant.specs.masters.Sound.{RecordsAreSound}
 
 -- none of these was taken
 abbrev pub none_taken : List ContainerId → List Held → Bool
@@ -126,7 +127,7 @@ module _ (book : BookOf) (name : List ℕ) (row : NodeRow) (taken : List Held) (
 
 -- ALL OF IT
 
-module _ (m : Scene) (t : Tables) (recorded : m.records ≡ t.tree) (same : Refines m.life t) (know : RowsKnow t) (here : LaunchesHere t.book t.nodes) (name : List ℕ) (row : NodeRow)
+module _ (m : Scene) (t : Tables) (recorded : m.records ≡ t.tree) (same : Refines m.life t) (know : RowsKnow t) (each : RecordsAreSound t.tree.apps) (here : LaunchesHere t.book t.nodes) (name : List ℕ) (row : NodeRow)
     (found : node_row t.nodes name ≡ Some row) (taken : List Held) (ended : List ContainerId) where
   -- the tables agree with the life after an absorption
   pub absorbed_agrees : is_waiting_row row.state ≡ true → are_containers_on t.book name ended ≡ true → none_taken ended taken ≡ true → Refines (absorbs m name taken ended) (absorbed_with name row.capability taken ended t)
@@ -138,6 +139,6 @@ module _ (m : Scene) (t : Tables) (recorded : m.records ≡ t.tree) (same : Refi
             (book_taken name taken (leave m Gone ended).book) (with_told absorbed name (leave m Gone ended).nodes)
             (nodes_absorbed t.book name row taken ended waits t.nodes m.life.nodes same.nodes here found on);
         asks = same.asks;
-        closings = closings_left m t recorded same know Gone ended;
+        closings = closings_left m t recorded same know each Gone ended;
         masters = λ attempt. masters_agree m.life.masters.registered m.life.granted (has_app m.life.apps.retired attempt.app) attempt (closings_of t.tree.apps Gone ended) t.rows (same.masters attempt);
       }

@@ -7,7 +7,9 @@ use Rattle.rm_types.specs.declared.entries.Entry.TheVariants.{Absorbed}
 use Rattle.rm_book.specs.Books.{book_row as book_row_of}
 use Rattle.rm_model.specs.Absorbing.{with_taken}
 use Rattle.rm_model.specs.Nodes.{is_waiting as waits_told, judged_node as node_told}
+use Rattle.rm_model.specs.Containers.{is_pending}
 use Rattle.rm_model.specs.Rules.{MayAbsorb}
+use Rattle.rm_tables.specs.Absorbing.{is_pending_in}
 use Rattle.rm_model.specs.State.{NodeState}
 use Rattle.rm_states.specs.declared.node.states.NodeState.{NodeState as NodePhase}
 use Rattle.rm_states.specs.declared.node.states.NodeState.TheVariants as states
@@ -26,7 +28,7 @@ use Rattle.rm_invariant.specs.masters.Preserves.{PreservesContainers}
 use Rattle.rm_invariant.proofs.masters.Absorbed.{absorbed_joins, absorbing, unabsorbed_joins}
 use Rattle.rm_invariant.proofs.masters.LeavingEvents.{lives_there, of_passing, same_ids_on}
 use Rattle.rm_invariant.specs.events.Refines.{Refines}
-use Rattle.rm_invariant.specs.events.Here.{FirstsKnown, NoneAbsent, are_containers_on}
+use Rattle.rm_invariant.specs.events.Here.{FirstsKnown, NoneAbsent, are_containers_on, astray_at}
 use Rattle.rm_invariant.specs.Core.{Nothing, CoreInvariant, PreservesCore}
 use Rattle.rm_invariant.proofs.events.Absorbing.{absorbed_agrees, none_taken}
 use Rattle.rm_invariant.proofs.events.Knowing.{launches_here, on_node, rows_apart, rows_know}
@@ -75,9 +77,9 @@ held_pass ended [] all = refl
 held_pass ended (held ∷ list) all = let none = all.0 in and_from _ (none_taken ended list) (rw none refl) (held_pass ended list all.1)
 
 module _ (settings : Settings) (h : History) (t : Tables) (w : CoreInvariant settings h t) (name : List ℕ) (turn : ℕ) (rest : List SchedEvent) (front : t.sched ≡ scheds.NodeAdded name turn ∷ rest)
-    (registered : NoneAbsent t.nodes) (firsts : FirstsKnown (abstract_scene h t) t.rows) where
+    (registered : NoneAbsent t.nodes) (firsts : FirstsKnown (abstract_scene h t) t.rows) (pending : (id : ContainerId) → is_pending_in t id ≡ is_pending settings (abstract_scene h t) id) where
   stands : (node : NodeState) × (node_told h.nodes name ≡ Some node)
-  stands = known_node h.nodes h.book t.sched name (scheds.NodeAdded name turn) rest front (text_itself name) w.nodes
+  stands = known_node (astray_at settings h t) h.nodes h.book t.sched name (scheds.NodeAdded name turn) rest front (text_itself name) w.nodes
 
   module _ (row : NodeRow) (found : node_row t.nodes name ≡ Some row) (node : NodeState) (there : node_told h.nodes name ≡ Some node) where
     alike : bare_node t.book name row ≡ plain_node node
@@ -102,7 +104,7 @@ module _ (settings : Settings) (h : History) (t : Tables) (w : CoreInvariant set
     quiet_whole : waits ≡ false → PreservesCore settings h t (sched_worked (sched_quiet t))
     quiet_whole none =
         idle_whole settings h t w (scheds.NodeAdded name turn) rest front t.main (record { next = h; joins = unabsorbed_joins settings h t w.keeps w.marks w.sound name turn rest front })
-        (added_quiet_good h.nodes h.book t.sched name turn rest node front there (idle_same ∙ ap not none) w.nodes)
+        (added_quiet_good (astray_at settings h t) h.nodes h.book t.sched name turn rest node front there (idle_same ∙ ap not none) w.nodes)
 
     -- the report is absorbed, and these end
     module _ (some : waits ≡ true) (list : List ContainerId) (ends : Ascend (book_not_taken t.book name (taken_in t name row)) list) where
@@ -112,23 +114,23 @@ module _ (settings : Settings) (h : History) (t : Tables) (w : CoreInvariant set
       busy : (not (turn == node.last.turn) || not (waits_told node.phase)) ≡ false
       busy = idle_same ∙ ap not some
 
-      takes : taken ≡ taken_of (abstract_scene h t) node
+      takes : taken ≡ taken_of settings (abstract_scene h t) node
       takes =
-          taken_same (abstract_scene h t) t name row node refl refl w.agrees.rows (rows_apart t.book.rows h.book w.agrees.rows w.book.apart) (rows_know settings h t w.keeps) firsts named alike
+          taken_same settings (abstract_scene h t) t pending name row node refl refl w.agrees.rows (rows_apart t.book.rows h.book w.agrees.rows w.book.apart) (rows_know settings h t w.keeps) firsts named alike
 
       -- of the state that stands the same are taken
-      takes_standing : taken ≡ taken_of (at_event settings h t w (scheds.NodeAdded name turn) rest front) node
+      takes_standing : taken ≡ taken_of settings (at_event settings h t w (scheds.NodeAdded name turn) rest front) node
       takes_standing =
-          taken_same (at_event settings h t w (scheds.NodeAdded name turn) rest front) t name row node w.keeps.recorded refl w.agrees.rows (rows_apart t.book.rows h.book w.agrees.rows w.book.apart)
+          taken_same settings (at_event settings h t w (scheds.NodeAdded name turn) rest front) t pending name row node w.keeps.recorded refl w.agrees.rows (rows_apart t.book.rows h.book w.agrees.rows w.book.apart)
           (rows_know settings h t w.keeps) firsts named alike
 
       told : Ascend (filter (λ id. not (is_held taken id)) (ids_on h.book name)) list
       told = subst (λ (ids : List ContainerId). Ascend (filter (λ id. not (is_held taken id)) ids) list) (same_ids_on name t.book.rows h.book w.agrees.rows) ends
 
-      may : MayAbsorb (abstract_scene h t) node taken list
+      may : MayAbsorb settings (abstract_scene h t) node taken list
       may =
           record {
-            registration = absorbed_lawful (abstract_scene h t) t.sched name turn rest node front there busy w.nodes;
+            registration = absorbed_lawful (astray_at settings h t) (abstract_scene h t) t.sched name turn rest node front there busy w.nodes;
             takes = takes;
             ends = subst (λ (n : List ℕ). Ascend (filter (λ id. not (is_held taken id)) (ids_on h.book n)) list) (sym named) told;
           }
@@ -160,7 +162,7 @@ module _ (settings : Settings) (h : History) (t : Tables) (w : CoreInvariant set
       book : BookInvariant life Nothing
       book =
           tidied_holds (with_taken name taken (leave (at_event settings h t w (scheds.NodeAdded name turn) rest front) Gone list)) Nothing
-          (taken_holds (at_event settings h t w (scheds.NodeAdded name turn) rest front) Nothing name node there taken list takes_standing living stay (all_held Nothing taken (λ id held. tt)) w.book)
+          (taken_holds settings (at_event settings h t w (scheds.NodeAdded name turn) rest front) Nothing name node there taken list takes_standing living stay (all_held Nothing taken (λ id held. tt)) w.book)
 
       both_first : (is_waiting_row row.state && (row.turn == turn)) ≡ true → is_waiting_row row.state ≡ true
       both_first e = by (is_waiting_row row.state) e
@@ -171,7 +173,7 @@ module _ (settings : Settings) (h : History) (t : Tables) (w : CoreInvariant set
 
       agrees : Refines life (absorbed_with name row.capability taken list t)
       agrees =
-          absorbed_agrees (at_event settings h t w (scheds.NodeAdded name turn) rest front) t w.keeps.recorded w.agrees (rows_know settings h t w.keeps)
+          absorbed_agrees (at_event settings h t w (scheds.NodeAdded name turn) rest front) t w.keeps.recorded w.agrees (rows_know settings h t w.keeps) w.sound
           (launches_here t.book h.book t.nodes h.nodes w.agrees.rows w.book.apart w.agrees.nodes w.book.launches) name row found taken list (both_first some) on (held_pass list taken stay)
 
       some_whole : PreservesCore settings h t (Absorbed name taken list, sched_popped (absorbed_with name row.capability taken list t))
@@ -179,9 +181,9 @@ module _ (settings : Settings) (h : History) (t : Tables) (w : CoreInvariant set
           let left : Tables = absorbed_with name row.capability taken list t in
           let g : History = absorbing settings h t w.keeps w.marks w.sound name turn rest front node there row.capability taken list may in
           let joins : PreservesContainers settings h t (Absorbed name taken list) g (sched_popped left) = absorbed_joins settings h t w.keeps w.marks w.sound name turn rest front node there row.capability taken list may in
-          let good : NodesInvariant life.nodes life.book rest = absorbed_good (at_event settings h t w (scheds.NodeAdded name turn) rest front) t.sched name turn rest node taken list front there busy w.nodes in
-          stepped_whole settings h t (Absorbed name taken list) (sched_popped left) life (record { next = g; joins = joins }) refl w.sound (queues_agree life left left.main (drop 1 t.sched) agrees)
-          (subst (NodesInvariant life.nodes life.book) (sym (ap (drop 1) front)) good) book
+          let good : NodesInvariant (astray_at settings h t) life.nodes life.book rest = absorbed_good (astray_at settings h t) (at_event settings h t w (scheds.NodeAdded name turn) rest front) t.sched name turn rest node taken list front there busy w.nodes in
+          stepped_whole settings h t (Absorbed name taken list) (sched_popped left) life w.keeps refl refl (record { next = g; joins = joins }) refl w.sound (queues_agree life left left.main (drop 1 t.sched) agrees)
+          (subst (NodesInvariant (astray_at settings h t) life.nodes life.book) (sym (ap (drop 1) front)) good) book
 
     by_test : (list : List ContainerId) (b : Bool) → waits ≡ b → EndsIf b name row t list → PreservesCore settings h t (sched_worked (absorbed_if b name row list t))
     by_test list true e ends = some_whole e list ends

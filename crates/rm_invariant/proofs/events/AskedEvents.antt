@@ -1,6 +1,6 @@
 -- Each event of the scheduler keeps what a pass takes of the asks: that masters are asked for once and only what goes on asks for more, and
 -- that those which ask for more are current.
-use Rattle.rm_invariant.proofs.Common.{◌≡◌, ◌≤◌, ◌||◌, List, [], ◌∷◌, ◌++◌, Bool, true, false, not, Option, None, Some, map, refl, sym, ◌∙◌, ap, subst, arith, if◌then◌else◌, list_any, false≢true, nat_tests, Ask, Closing, AppId, AttemptId, ContainerId, AppRecord, Resource, is_app, is_attempt, same_attempt, AsksOf, attempt_asks, asks_set, is_for, renewed_ask, with_asks_of, SchedEvent, AppRow, Tables, found_in, sched_worked, closed, closed_in, closed_one, closings_of, grants_on, row_of, master_asked, sched_step, Entry, sched_quiet}
+use Rattle.rm_invariant.proofs.Common.{◌≡◌, ◌≤◌, ◌||◌, List, [], ◌∷◌, ◌++◌, Bool, true, false, not, Option, None, Some, map, refl, sym, ◌∙◌, ap, subst, arith, if◌then◌else◌, list_any, false≢true, nat_tests, Ask, AppId, AttemptId, ContainerId, AppRecord, Resource, is_app, is_attempt, same_attempt, AsksOf, attempt_asks, asks_set, is_for, renewed_ask, with_asks_of, SchedEvent, AppRow, Tables, found_in, sched_worked, closed, closed_in, closed_one, closings_of, grants_on, row_of, master_asked, sched_step, Entry, sched_quiet}
 use Rattle.std.proofs.Common.{◌==◌, count_by}
 use Rattle.rm_types.specs.declared.containers.Cause.TheVariants.{Gone}
 use Rattle.rm_invariant.specs.apps.View.{changed_if}
@@ -13,6 +13,7 @@ use Rattle.rm_invariant.proofs.events.Waiting.{line_of}
 use Rattle.rm_invariant.specs.events.SchedOutcomes.{SchedOutcome}
 use Rattle.rm_invariant.specs.events.SchedOutcomes as outcomes
 use Rattle.rm_invariant.proofs.events.SchedOutcomes.{sched_outcome}
+use Rattle.rm_types.specs.declared.containers.ClosingOf.{ClosingOf}
 
 -- what a pass takes of the tables
 abbrev pub AsksApt : Tables → Type 0
@@ -21,11 +22,11 @@ AsksApt t = MastersAskOnce t × OthersCurrent t × AppsOnce t
 -- ROWS THAT TELL MORE
 
 -- what is nothing to the endings that a master is to be told is the same of the rows that tell more
-rows_told : (f : Option AppRow → Bool) → ((closing : Closing) (row : AppRow) → f (Some (closed closing row)) ≡ f (Some row)) → (closings : List Closing) (rows : List (AppId × Option AppRow)) (id : AppId)
+rows_told : (f : Option AppRow → Bool) → ((closing : ClosingOf) (row : AppRow) → f (Some (closed closing row)) ≡ f (Some row)) → (closings : List ClosingOf) (rows : List (AppId × Option AppRow)) (id : AppId)
     → f (row_of (closed_in rows closings) id) ≡ f (row_of rows id)
 rows_told f same [] rows id = refl
 rows_told f same (closing ∷ closings) rows id =
-    rows_told f same closings (closed_one rows closing) id ∙ ap f (row_changed (closed closing) closing.id.attempt.app id rows) ∙ by (is_app closing.id.attempt.app id) (row_of rows id)
+    rows_told f same closings (closed_one rows closing) id ∙ ap f (row_changed (closed closing) closing.attempt.app id rows) ∙ by (is_app closing.attempt.app id) (row_of rows id)
   where
     by : (b : Bool) (o : Option AppRow) → f (changed_if b (closed closing) o) ≡ f o
     by true None = refl
@@ -33,7 +34,7 @@ rows_told f same (closing ∷ closings) rows id =
     by false o = refl
 
 -- the tables with the same asks, where the rows tell more
-told_apt : (t next : Tables) (closings : List Closing) → next.asks ≡ t.asks → next.rows ≡ closed_in t.rows closings → next.tree ≡ t.tree → AsksApt t → AsksApt next
+told_apt : (t next : Tables) (closings : List ClosingOf) → next.asks ≡ t.asks → next.rows ≡ closed_in t.rows closings → next.tree ≡ t.tree → AsksApt t → AsksApt next
 told_apt t next closings asks rows tree apt = (
   record {
     single = λ q. ap (λ (table : List AsksOf). are_single (attempt_asks table q)) asks ∙ apt.0.single q;

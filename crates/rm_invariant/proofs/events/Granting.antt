@@ -1,5 +1,5 @@
 -- Containers are granted: the rows of applications count them, tell the same endings, and agree with what was said of attempts.
-use Rattle.rm_invariant.proofs.Common.{◌≡◌, ℕ, ◌+◌, List, [], ◌∷◌, ◌++◌, Bool, true, false, Option, None, Some, fold, map, refl, sym, ◌∙◌, ap, subst, arith, bytes_eq, nat_tests, map-append, Closing, Grant, AppId, AttemptId, ContainerId, is_app, is_attempt, same_attempt, same_app, same_text, BookOf, granted_rows, with_grants, AttemptState, passed, MasterState, Row, NodeRow, AppRow, Current, changed, current_after, granted, granted_at, rows_after_grant, row_of, AttemptAgrees, ClosingsAgree, NumberAgrees, RowAgrees, SameNodes, SameRows, bare_row, grants_of, plain_row, plain_node}
+use Rattle.rm_invariant.proofs.Common.{◌≡◌, ℕ, ◌+◌, List, [], ◌∷◌, ◌++◌, Bool, true, false, Option, None, Some, fold, map, refl, sym, ◌∙◌, ap, subst, arith, bytes_eq, nat_tests, map-append, Grant, AppId, AttemptId, ContainerId, is_app, is_attempt, same_attempt, same_app, same_text, BookOf, granted_rows, with_grants, AttemptState, passed, MasterState, Row, NodeRow, AppRow, Current, changed, current_after, granted, granted_at, rows_after_grant, row_of, AttemptAgrees, ClosingsAgree, NumberAgrees, RowAgrees, SameNodes, SameRows, bare_row, grants_of, plain_row, plain_node}
 use Rattle.std.proofs.Common.{◌==◌, nat_lt, append_assoc, append-nil}
 use Rattle.std.specs.Prelude.{option_map}
 use Rattle.rm_types.specs.declared.containers.ContainerState.TheVariants.{Granted}
@@ -14,6 +14,7 @@ use Rattle.rm_invariant.specs.apps.View.{changed_if, one_if}
 use Rattle.rm_invariant.proofs.apps.Counts.{at_end}
 use Rattle.rm_invariant.proofs.apps.Found.{row_changed}
 use Rattle.rm_invariant.specs.events.Asking.{AreNext, is_current_number, is_numbered, is_numbered_in}
+use Rattle.rm_types.specs.declared.containers.ClosingOf.{ClosingOf}
 
 -- CONTAINERS
 
@@ -57,7 +58,7 @@ found_counting : (grant : Grant) (rows : List (AppId × Option AppRow)) (id : Ap
 found_counting grant rows id = row_changed (counting grant) grant.id.attempt.app id rows
 
 -- they tell the same endings
-pub closings_passed : (outbox : List Closing) (id : AppId) (retired : Bool) (grants : List Grant) (rows : List (AppId × Option AppRow)) → ClosingsAgree outbox id retired (row_of rows id)
+pub closings_passed : (outbox : List ClosingOf) (id : AppId) (retired : Bool) (grants : List Grant) (rows : List (AppId × Option AppRow)) → ClosingsAgree outbox id retired (row_of rows id)
     → ClosingsAgree outbox id retired (row_of (fold rows_after_grant rows grants) id)
 closings_passed outbox id retired [] rows same = same
 closings_passed outbox id retired (grant ∷ grants) rows same =

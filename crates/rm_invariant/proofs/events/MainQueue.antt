@@ -1,5 +1,5 @@
 -- Each event of the main queue but EpochStart, as a whole step that keeps all that holds of an open life.
-use Rattle.rm_invariant.proofs.Common.{◌≡◌, List, [], ◌∷◌, ◌++◌, None, Some, sym, ◌∙◌, ap, Entry, refl, Settings, MainEvent, Tables, main_worked, main_step, History, Entry, Quiet, drop, abstract_life, AttemptId, Accepted, row_of, AppRow, killed_text, next_in, Issued, main_popped}
+use Rattle.rm_invariant.proofs.Common.{◌≡◌, List, [], ◌∷◌, ◌++◌, None, Some, sym, ◌∙◌, ap, Entry, refl, Settings, MainEvent, Tables, main_worked, main_step, History, Quiet, drop, abstract_life, AttemptId, Accepted, row_of, AppRow, killed_text, next_in, Issued, main_popped}
 use Rattle.std.proofs.Common.{◌≢◌}
 use Rattle.rm_tables.specs.declared.events.MainEvent.TheVariants as mains
 use Rattle.rm_invariant.specs.events.MainFacts.{MainFacts}
@@ -33,12 +33,12 @@ module _ (settings : Settings) (h : History) (t : Tables) (w : CoreInvariant set
   comes_whole done idles joins = quiet_whole settings h t w joins
   comes_whole done (saves id row submission rest found waits front) joins = issued_whole settings h t w (ops.App id submission) id of_app.Issue refl refl joins
   comes_whole done (adds id row rest found state front) joins =
-      same_whole settings h t w (Quiet lanes.Main) (record t { main = drop 1 t.main; sched = t.sched ++ scheds.AppAdded id ∷ [] }) h.asks h.apps joins refl refl
+      same_whole settings h t w (Quiet lanes.Main) (record t { main = drop 1 t.main; sched = t.sched ++ scheds.AppAdded id ∷ [] }) h.asks h.apps refl refl joins refl refl
       (queues_agree (abstract_life h t) t (drop 1 t.main) (t.sched ++ scheds.AppAdded id ∷ []) w.agrees) (λ q. posted_still q t.sched (scheds.AppAdded id) refl)
   comes_whole done (accepts id row found state) joins =
       let zero : AttemptId = record { app = id; number = 0 } in
       let alone : row.current ≡ None = none_submitted settings zero row (view h t zero) state (rw found at (w.keeps.all zero)) in
-      scheduled_whole settings h t w (Accepted id) (record { app = id; number = 1 }) (h.apps.accepted ++ id ∷ []) refl
+      scheduled_whole settings h t w (Accepted id) (record { app = id; number = 1 }) (h.apps.accepted ++ id ∷ []) refl refl refl
       (λ one current there is. absurd (let same = same_row (row_of t.rows id) one row there found in let x : None ≡ Some current = sym alone ∙ ap (λ (r : AppRow). r.current) (sym same) ∙ is in cc)) joins
   comes_whole done (ends id row how text found stopped said) joins = ends_whole settings h t w id how text joins
   comes_whole done (kills id row current is number alive goes) joins = issued_whole settings h t w (ops.AttemptEnd id ways.Killed killed_text) id.app of_app.Kill refl refl joins
@@ -50,14 +50,14 @@ module _ (settings : Settings) (h : History) (t : Tables) (w : CoreInvariant set
   comes_whole done (ends_one id row current how text is number alive said) joins = issued_whole settings h t w (ops.AttemptEnd id how text) id.app (of_app.OfAttempt (of_attempt.End how)) refl refl joins
   comes_whole done (loses container row current is state number mine) joins = changed_whole settings h t w container.attempt.app (of_app.OfAttempt of_attempt.Lose) refl joins
   comes_whole done (follows id row current is active state none) joins =
-      scheduled_whole settings h t w (Quiet lanes.Main) (next_in t id) h.apps.accepted refl
+      scheduled_whole settings h t w (Quiet lanes.Main) (next_in t id) h.apps.accepted refl refl refl
       (λ one other there here.
       let same : one ≡ row = same_row (row_of t.rows id) one row there is.found in
       let x : Some other ≡ Some current = sym here ∙ ap (λ (r : AppRow). r.current) same ∙ is.is in
       let y : other ≡ current = cc in
       rw y (later settings h t w (record { app = id; number = current.number }) row is.found current is.is active state)) joins
   comes_whole done (removes id more first many) joins =
-      same_whole settings h t w (Issued (ops.Remove id)) (main_popped (record t { ended = more; awaiting = t.awaiting ++ ops.Remove id ∷ []; main = t.main ++ mains.Retire ∷ [] })) h.asks h.apps joins refl refl
+      same_whole settings h t w (Issued (ops.Remove id)) (main_popped (record t { ended = more; awaiting = t.awaiting ++ ops.Remove id ∷ []; main = t.main ++ mains.Retire ∷ [] })) h.asks h.apps refl refl joins refl refl
       (record { rows = w.agrees.rows; nodes = w.agrees.nodes; asks = w.agrees.asks; closings = w.agrees.closings; masters = w.agrees.masters }) (λ q. refl)
 
 -- the applications and masters allow each event

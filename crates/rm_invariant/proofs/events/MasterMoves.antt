@@ -34,7 +34,7 @@ module _ (settings : Settings) (h : History) (t : Tables) (w : CoreInvariant set
 
       pub requeued_whole : PreservesContainersTo settings h t (main_worked (Quiet lanes.Main, with_attempt_requeued attempt t)) → PreservesCore settings h t (main_worked (Quiet lanes.Main, with_attempt_requeued attempt t))
       requeued_whole joins =
-          same_whole settings h t w (Quiet lanes.Main) (main_popped (with_attempt_requeued attempt t)) h.asks h.apps joins refl refl
+          same_whole settings h t w (Quiet lanes.Main) (main_popped (with_attempt_requeued attempt t)) h.asks h.apps refl refl joins refl refl
           (changed_agrees (abstract_life h t) t (main_popped (with_attempt_requeued attempt t)) attempt.app (changed (of_app.OfAttempt of_attempt.Requeue)) w.agrees refl refl refl
           (λ q. row_changed (changed (of_app.OfAttempt of_attempt.Requeue)) attempt.app q t.rows) (λ one there. refl)
           (λ one q there e says.

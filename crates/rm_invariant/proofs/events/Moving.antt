@@ -17,6 +17,9 @@ use Rattle.rm_invariant.specs.events.Refines.{Refines}
 use Rattle.rm_invariant.specs.Core.{CoreInvariant, PreservesCore}
 use Rattle.rm_invariant.proofs.events.Changes.{kept_agrees, keeps_attempt, scheduled_agrees}
 use Rattle.rm_invariant.proofs.events.Leaving.{queues_agree, stepped_whole}
+use Rattle.rm_laws.specs.Laws.{is_bound}
+use Rattle.rm_laws.proofs.Missing.{is_kept_entry}
+use Rattle.rm_invariant.specs.events.Here.{astray_at}
 
 -- AN ATTEMPT THAT ASKS FOR NOTHING MORE
 
@@ -81,23 +84,23 @@ posted_still q sched e none = filter-append (is_nodes_event q) sched (e ∷ []) 
 
 module _ (settings : Settings) (h : History) (t : Tables) (w : CoreInvariant settings h t) where
   -- the life has the same book and the same nodes, and so have the tables
-  pub same_whole : (entry : Entry) (next : Tables) (asks : List AskOf) (applications : Applications) → PreservesContainersTo settings h t (entry, next)
+  pub same_whole : (entry : Entry) (next : Tables) (asks : List AskOf) (applications : Applications) → is_bound entry ≡ false → is_kept_entry entry ≡ false → PreservesContainersTo settings h t (entry, next)
       → (after (live_state h t) entry).life ≡ Some (record (abstract_life h t) { asks = asks; apps = applications }) → next.tree ≡ t.tree → Refines (record (abstract_life h t) { asks = asks; apps = applications }) next
       → ((q : List ℕ) → events_of q next.sched ≡ events_of q t.sched) → PreservesCore settings h t (entry, next)
-  same_whole entry next asks applications joins was tree agrees events =
-      stepped_whole settings h t entry next (record (abstract_life h t) { asks = asks; apps = applications }) joins was (subst (λ (r : Records). RecordsAreSound r.apps) (sym tree) w.sound) agrees
-      (λ q. subst (λ (list : List SchedEvent). NodeInvariant (judged_node h.nodes q) list (ids_on h.book q)) (sym (events q)) (w.nodes q))
+  same_whole entry next asks applications inside other joins was tree agrees events =
+      stepped_whole settings h t entry next (record (abstract_life h t) { asks = asks; apps = applications }) w.keeps inside other joins was (subst (λ (r : Records). RecordsAreSound r.apps) (sym tree) w.sound) agrees
+      (λ q. subst (λ (list : List SchedEvent). NodeInvariant (astray_at settings h t) (judged_node h.nodes q) list (ids_on h.book q)) (sym (events q)) (w.nodes q))
       (record { apart = w.book.apart; rows = w.book.rows; left = w.book.left; launches = w.book.launches })
 
   -- there is nothing to do
   pub quiet_whole : PreservesContainersTo settings h t (main_worked (main_quiet t)) → PreservesCore settings h t (main_worked (main_quiet t))
-  quiet_whole joins = same_whole (Quiet lanes.Main) (main_popped t) h.asks h.apps joins refl refl (queues_agree (abstract_life h t) t (drop 1 t.main) t.sched w.agrees) (λ q. refl)
+  quiet_whole joins = same_whole (Quiet lanes.Main) (main_popped t) h.asks h.apps refl refl joins refl refl (queues_agree (abstract_life h t) t (drop 1 t.main) t.sched w.agrees) (λ q. refl)
 
   -- a row changes, and its attempt stays alike
   pub changed_whole : (id : AppId) (change : RowChange) → keeps_attempt change ≡ true → PreservesContainersTo settings h t (main_worked (Quiet lanes.Main, app_changed change id t))
       → PreservesCore settings h t (main_worked (Quiet lanes.Main, app_changed change id t))
   changed_whole id change keeps joins =
-      same_whole (Quiet lanes.Main) (main_popped (app_changed change id t)) h.asks h.apps joins refl refl
+      same_whole (Quiet lanes.Main) (main_popped (app_changed change id t)) h.asks h.apps refl refl joins refl refl
       (kept_agrees (abstract_life h t) t (main_popped (app_changed change id t)) id change keeps w.agrees refl refl refl (λ q. row_changed (changed change) id q t.rows)) (λ q. refl)
 
   -- and an operation is issued
@@ -107,7 +110,7 @@ module _ (settings : Settings) (h : History) (t : Tables) (w : CoreInvariant set
   pub issued_whole : (op : Op) (id : AppId) (change : RowChange) → keeps_attempt change ≡ true → life_issues (scene (live_state h t) (abstract_life h t)) op ≡ abstract_life h t
       → PreservesContainersTo settings h t (Issued op, issued op id change) → PreservesCore settings h t (Issued op, issued op id change)
   issued_whole op id change keeps still joins =
-      same_whole (Issued op) (issued op id change) h.asks h.apps joins (ap Some still) refl
+      same_whole (Issued op) (issued op id change) h.asks h.apps refl refl joins (ap Some still) refl
       (kept_agrees (abstract_life h t) t (issued op id change) id change keeps w.agrees refl refl refl (λ q. row_changed (changed change) id q t.rows)) (λ q. refl)
 
   -- the end of an application is issued
@@ -117,16 +120,16 @@ module _ (settings : Settings) (h : History) (t : Tables) (w : CoreInvariant set
       let life : LifeState = record (abstract_life h t) { asks = asks } in
       let asked : Tables = record t { asks = without_asks_of (next_in t id) t.asks } in
       let agrees : Refines life asked = record { rows = w.agrees.rows; nodes = w.agrees.nodes; asks = asks_gone (next_in t id) t.asks h.asks w.agrees.asks; closings = w.agrees.closings; masters = w.agrees.masters } in
-      same_whole (Issued (ops.AppEnd id how text)) (main_popped (app_ends id how text t)) asks h.apps joins (rw w.keeps.recorded refl) refl
+      same_whole (Issued (ops.AppEnd id how text)) (main_popped (app_ends id how text t)) asks h.apps refl refl joins (rw w.keeps.recorded refl) refl
       (kept_agrees life asked (main_popped (app_ends id how text t)) id of_app.End refl agrees refl refl refl (λ q. row_changed (changed of_app.End) id q t.rows)) (λ q. refl)
 
   -- the next attempt is scheduled, which is later than the current one
-  pub scheduled_whole : (entry : Entry) (id : AttemptId) (accepted : List AppId) → (after (live_state h t) entry).life ≡ Some (record (abstract_life h t) { apps = record h.apps { accepted = accepted } })
+  pub scheduled_whole : (entry : Entry) (id : AttemptId) (accepted : List AppId) → is_bound entry ≡ false → is_kept_entry entry ≡ false → (after (live_state h t) entry).life ≡ Some (record (abstract_life h t) { apps = record h.apps { accepted = accepted } })
       → ((row : AppRow) (current : Current) → row_of t.rows id.app ≡ Some row → row.current ≡ Some current → current.number < id.number)
       → PreservesContainersTo settings h t (main_worked (entry, schedules id t)) → PreservesCore settings h t (main_worked (entry, schedules id t))
-  scheduled_whole entry id accepted was later joins =
+  scheduled_whole entry id accepted inside other was later joins =
       let life : LifeState = record (abstract_life h t) { apps = record h.apps { accepted = accepted } } in
       let agrees : Refines life t = record { rows = w.agrees.rows; nodes = w.agrees.nodes; asks = w.agrees.asks; closings = w.agrees.closings; masters = w.agrees.masters } in
-      same_whole entry (main_popped (schedules id t)) h.asks (record h.apps { accepted = accepted }) joins was refl
+      same_whole entry (main_popped (schedules id t)) h.asks (record h.apps { accepted = accepted }) inside other joins was refl
       (scheduled_agrees life t (main_popped (schedules id t)) id.app id.number agrees refl refl refl (λ q. row_changed (changed (of_app.Schedule id.number)) id.app q t.rows) later)
       (λ q. posted_still q t.sched (scheds.AttemptAdded id) refl)

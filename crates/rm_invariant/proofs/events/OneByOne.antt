@@ -12,6 +12,7 @@ use Rattle.rm_invariant.specs.events.Asking.{AreNext}
 use Rattle.rm_invariant.specs.Core.{Nothing}
 use Rattle.rm_invariant.proofs.events.Entering.{one_enters, with_one}
 use Rattle.rm_invariant.proofs.events.OneGrant.{IsReady, Still, history_with, one_says, still_ready, tables_with, waited}
+use Rattle.rm_invariant.specs.masters.Sound.{RecordsAreSound}
 
 -- of an application that waits for its master's container at most one is granted
 abbrev pub MastersOnce : List (AppId × Option AppRow) → List Grant → Type 0
@@ -99,18 +100,18 @@ book_with h t grant holds = record { apart = holds.apart; rows = holds.rows; lef
 
 module _ (settings : Settings) (at : List (AppId × Option AppRow)) where
   -- holds after all grants
-  pub all_say : (grants : List Grant) (h : History) (t : Tables) → BothSay settings h t → BookInvariant (abstract_life h t) Nothing → AreNext at h.granted grants → All (λ grant. grant.id.epoch ≡ t.epoch) grants
+  pub all_say : (grants : List Grant) (h : History) (t : Tables) → BothSay settings h t → RecordsAreSound t.tree.apps → BookInvariant (abstract_life h t) Nothing → AreNext at h.granted grants → All (λ grant. grant.id.epoch ≡ t.epoch) grants
       → All (λ grant. IsAbsorbed h.nodes grant.node) grants → All (IsReady t.rows h.asks) grants → MastersOnce t.rows grants → BothSay settings (history_after h grants) (tables_after t grants)
-  all_say [] h t says book next now absorbed ready once =
+  all_say [] h t says each book next now absorbed ready once =
       subst (λ (events : List MainEvent). BothSay settings (history_after h []) (record t { main = events })) (sym (append-nil t.main))
       (subst (λ (rows : List Row). BothSay settings (record h { granted = h.granted ++ []; book = rows }) t) (sym (append-nil h.book))
       (subst (λ (granted : List ContainerId). BothSay settings (record h { granted = granted }) t) (sym (append-nil h.granted)) says))
-  all_say (grant ∷ grants) h t says book next now absorbed ready once =
+  all_say (grant ∷ grants) h t says each book next now absorbed ready once =
       let still : All (Still t.rows h.asks grant) grants = stay_ready t.rows grant grants once h.asks ready.0 ready.1 in
-      let first : BothSay settings (history_with h t grant) (tables_with h t grant) = one_says h t grant settings says.0 says.1 book now.0 next.1 ready.0 in
+      let first : BothSay settings (history_with h t grant) (tables_with h t grant) = one_says h t grant settings says.0 says.1 each book now.0 next.1 ready.0 in
       let entered = book_with h t grant (one_enters (abstract_life h t) grant book now.0 next.1 absorbed.0) in
       let rest : BothSay settings (history_after (history_with h t grant) grants) (tables_after (tables_with h t grant) grants) =
-      all_say grants (history_with h t grant) (tables_with h t grant) first entered next.2 now.1 absorbed.1 (still_all t.rows h.asks grant grants still) (once_more t.rows grant grants once) in
+      all_say grants (history_with h t grant) (tables_with h t grant) first each entered next.2 now.1 absorbed.1 (still_all t.rows h.asks grant grants still) (once_more t.rows grant grants once) in
       let events : (t.main ++ masters_granted t.rows (grant ∷ [])) ++ masters_granted (rows_after_grant t.rows grant) grants ≡ t.main ++ masters_granted t.rows (grant ∷ grants) =
       append_assoc t.main (masters_granted t.rows (grant ∷ [])) (masters_granted (rows_after_grant t.rows grant) grants)
       ∙ ap (λ (l : List MainEvent). t.main ++ (masters_granted t.rows (grant ∷ []) ++ l)) (masters_still t.rows h.asks grant grants still)

@@ -21,6 +21,8 @@ use Rattle.rm_invariant.specs.Core.{Nothing}
 use Rattle.rm_invariant.proofs.events.Answered.{other_lessened, own_lessened}
 use Rattle.rm_invariant.proofs.events.Granting.{counting, granted_keeps}
 use Rattle.rm_invariant.proofs.events.Waiting.{Ready, Waits, asks_say, count_told, is_zero, line_of}
+use Rattle.rm_invariant.specs.masters.Sound.{RecordsAreSound}
+use Rattle.rm_invariant.proofs.masters.Clean.{waiting_clean, going_clean}
 
 -- WHAT IS ASKED FOR
 
@@ -199,7 +201,7 @@ module _ (h : History) (t : Tables) (grant : Grant) where
   abbrev pub tables_with : Tables
   tables_with = record t { rows = rows_after_grant t.rows grant; main = t.main ++ masters_granted t.rows (grant ∷ []) }
 
-  module _ (settings : Settings) (says : AttemptsInvariant settings h t) (all : ContainersInvariant h t) (book : BookInvariant (abstract_life h t) Nothing) (epoch : grant.id.epoch ≡ t.epoch)
+  module _ (settings : Settings) (says : AttemptsInvariant settings h t) (all : ContainersInvariant h t) (each : RecordsAreSound t.tree.apps) (book : BookInvariant (abstract_life h t) Nothing) (epoch : grant.id.epoch ≡ t.epoch)
       (seq : grant.id.seq ≡ grants_of h.granted grant.id.attempt + 1) (ready : IsReady t.rows h.asks grant) where
     new : IsNew (abstract_life h t) grant.id
     new = (epoch, omega (arith, seq))
@@ -220,8 +222,8 @@ module _ (h : History) (t : Tables) (grant : Grant) where
             let asked = asked_master h.asks grant w.line in
             subst (λ (events : List MainEvent).
             AttemptsInvariant settings history_with (record t { rows = rows_after_grant t.rows grant; main = t.main ++ events }) × ContainersInvariant history_with (record t { rows = rows_after_grant t.rows grant; main = t.main ++ events })) (sym posted) (
-              master_says settings h t says all (row_told grant) (without_told h.asks grant) (h.granted ++ grant.id ∷ []) ready.row ready.found ready.current ready.is ready.numbered w.is asked fresh,
-              master_marks settings h t says all (row_told grant) (without_told h.asks grant) (h.granted ++ grant.id ∷ []) ready.row ready.found ready.current ready.is ready.numbered w.is asked fresh,
+              master_says settings h t says all (row_told grant) (without_told h.asks grant) (h.granted ++ grant.id ∷ []) ready.row ready.found ready.current ready.is ready.numbered (waiting_clean settings h t says each grant.id ready.row ready.found ready.current ready.is ready.numbered w.is) w.is asked fresh,
+              master_marks settings h t says all (row_told grant) (without_told h.asks grant) (h.granted ++ grant.id ∷ []) ready.row ready.found ready.current ready.is ready.numbered (waiting_clean settings h t says each grant.id ready.row ready.found ready.current ready.is ready.numbered w.is) w.is asked fresh,
             )
         by (inr state) =
             let posted : masters_granted t.rows (grant ∷ []) ≡ [] = posts false (waits_is _ _ _ _ ready ∙ going_waits ready.current.state state) in
@@ -231,8 +233,8 @@ module _ (h : History) (t : Tables) (grant : Grant) where
             let asked = asked_more h.asks grant (none state) in
             subst (λ (events : List MainEvent).
             AttemptsInvariant settings history_with (record t { rows = rows_after_grant t.rows grant; main = events }) × ContainersInvariant history_with (record t { rows = rows_after_grant t.rows grant; main = events })) (sym same) (
-              granted_says settings h t says all (row_told grant) (without_told h.asks grant) (h.granted ++ grant.id ∷ []) ready.row ready.found ready.current ready.is ready.numbered state asked (inl (living, left)),
-              granted_more_marks settings h t says all (row_told grant) (without_told h.asks grant) (h.granted ++ grant.id ∷ []) ready.row ready.found ready.current ready.is ready.numbered state asked (inl (living, left)),
+              granted_says settings h t says all (row_told grant) (without_told h.asks grant) (h.granted ++ grant.id ∷ []) ready.row ready.found ready.current ready.is ready.numbered (going_clean settings h t says each grant.id ready.row ready.found ready.current ready.is ready.numbered state) state asked (inl (living, left)),
+              granted_more_marks settings h t says all (row_told grant) (without_told h.asks grant) (h.granted ++ grant.id ∷ []) ready.row ready.found ready.current ready.is ready.numbered (going_clean settings h t says each grant.id ready.row ready.found ready.current ready.is ready.numbered state) state asked (inl (living, left)),
             )
           where
             none : Alive ready.current.state ⊎ (ready.current.state ≡ attempts.Ending) → count_by (is_ask grant.id.attempt) h.asks ≡ 0

@@ -13,6 +13,7 @@ use Rattle.rm_invariant.proofs.masters.Held.{same_node, stands}
 use Rattle.rm_invariant.specs.events.Refines.{Refines}
 use Rattle.rm_invariant.specs.Core.{Nothing, CoreInvariant, PreservesCore}
 use Rattle.rm_invariant.proofs.events.Leaving.{stepped_whole}
+use Rattle.rm_invariant.specs.events.Here.{astray_at}
 
 module _ (c : ContainerId) (name : List ℕ) where
   -- a node that is to launch it too
@@ -20,19 +21,19 @@ module _ (c : ContainerId) (name : List ℕ) where
   launching node = record node { launches = node.launches ++ c ∷ [] }
 
   -- what isn't worked off at a node is the same
-  launching_good : (o : Option NodeState) (events : List SchedEvent) (on : List ContainerId) → NodeInvariant o events on → NodeInvariant (option_map launching o) events on
-  launching_good None events on good = good
-  launching_good (Some node) events on good = good
+  launching_good : (astray : ContainerId → Bool) (o : Option NodeState) (events : List SchedEvent) (on : List ContainerId) → NodeInvariant astray o events on → NodeInvariant astray (option_map launching o) events on
+  launching_good astray None events on good = good
+  launching_good astray (Some node) events on good = good
 
-  nodes_good : (nodes : List NodeState) (book : List Row) (sched : List SchedEvent) → NodesInvariant nodes book sched → NodesInvariant (with_judged_node launching name nodes) book sched
-  nodes_good nodes book sched good = λ q. by q (bytes_eq name q) refl
+  nodes_good : (astray : ContainerId → Bool) (nodes : List NodeState) (book : List Row) (sched : List SchedEvent) → NodesInvariant astray nodes book sched → NodesInvariant astray (with_judged_node launching name nodes) book sched
+  nodes_good astray nodes book sched good = λ q. by q (bytes_eq name q) refl
     where
-      by : (q : List ℕ) (b : Bool) → bytes_eq name q ≡ b → NodeInvariant (judged_node (with_judged_node launching name nodes) q) (events_of q sched) (ids_on book q)
+      by : (q : List ℕ) (b : Bool) → bytes_eq name q ≡ b → NodeInvariant astray (judged_node (with_judged_node launching name nodes) q) (events_of q sched) (ids_on book q)
       by q true e =
-          let here : NodeInvariant (judged_node (with_judged_node launching name nodes) name) (events_of name sched) (ids_on book name) =
-          subst (λ (o : Option NodeState). NodeInvariant o (events_of name sched) (ids_on book name)) (sym (own_told launching name nodes (λ one. refl))) (launching_good (judged_node nodes name) (events_of name sched) (ids_on book name) (good name)) in
-          subst (λ (z : List ℕ). NodeInvariant (judged_node (with_judged_node launching name nodes) z) (events_of z sched) (ids_on book z)) (same_text name q e) here
-      by q false e = subst (λ (o : Option NodeState). NodeInvariant o (events_of q sched) (ids_on book q)) (sym (other_told launching name q nodes (λ one. refl) e)) (good q)
+          let here : NodeInvariant astray (judged_node (with_judged_node launching name nodes) name) (events_of name sched) (ids_on book name) =
+          subst (λ (o : Option NodeState). NodeInvariant astray o (events_of name sched) (ids_on book name)) (sym (own_told launching name nodes (λ one. refl))) (launching_good astray (judged_node nodes name) (events_of name sched) (ids_on book name) (good name)) in
+          subst (λ (z : List ℕ). NodeInvariant astray (judged_node (with_judged_node launching name nodes) z) (events_of z sched) (ids_on book z)) (same_text name q e) here
+      by q false e = subst (λ (o : Option NodeState). NodeInvariant astray o (events_of q sched) (ids_on book q)) (sym (other_told launching name q nodes (λ one. refl) e)) (good q)
 
   -- what each node is to launch stands on it
   launches_stand : (book : List Row) → lives_on book name c ≡ true → (nodes : List NodeState) → All (AreLaunches book) nodes → All (AreLaunches book) (with_judged_node launching name nodes)
@@ -83,4 +84,4 @@ module _ (settings : Settings) (h : History) (t : Tables) (w : CoreInvariant set
         closings = w.agrees.closings;
         masters = w.agrees.masters;
       } in
-      stepped_whole settings h t (Ordered c name) (main_popped (with_order c name t)) life joins refl w.sound agrees (nodes_good c name h.nodes h.book t.sched w.nodes) (orders_holds c name (abstract_life h t) on w.book)
+      stepped_whole settings h t (Ordered c name) (main_popped (with_order c name t)) life w.keeps refl refl joins refl w.sound agrees (nodes_good c name (astray_at settings h t) h.nodes h.book t.sched w.nodes) (orders_holds c name (abstract_life h t) on w.book)

@@ -23,6 +23,7 @@ use Rattle.rm_invariant.proofs.events.Leaving.{idle_whole, stepped_whole}
 use Rattle.rm_invariant.specs.events.SchedOutcomes.{SchedOutcome}
 use Rattle.rm_invariant.specs.events.SchedOutcomes as outcomes
 use Rattle.rm_invariant.proofs.events.SchedOutcomes.{sched_outcome}
+use Rattle.rm_invariant.specs.events.Here.{astray_at}
 
 -- an attempt that doesn't ask for its master has no such ask
 none_for : (id : AttemptId) (size : Resource) (asks : List AskOf) → count_by (is_ask id) asks ≡ 0 → list_any (is_for 0 size) (asks_told asks id) ≡ false
@@ -75,7 +76,7 @@ module _ (settings : Settings) (h : History) (t : Tables) (w : CoreInvariant set
 
   -- AttemptAdded
   module _ (id : AttemptId) (rest : List SchedEvent) (front : t.sched ≡ scheds.AttemptAdded id ∷ rest) where
-    good : NodesInvariant h.nodes h.book rest
+    good : NodesInvariant (astray_at settings h t) h.nodes h.book rest
     good = still_good settings h t w (scheds.AttemptAdded id) rest front (λ q. refl)
 
     -- the attempt has a record of its application and no ask for its master yet
@@ -95,9 +96,9 @@ module _ (settings : Settings) (h : History) (t : Tables) (w : CoreInvariant set
     asked app found none joins =
         let next : Tables = sched_popped (record t { asks = master_asked id (found_in t id.app) t.asks }) in
         let life : LifeState = record (abstract_life h t) { asks = h.asks ++ master_ask id (Some app.submission) } in
-        stepped_whole settings h t (Queued id) next life joins (rw (w.keeps.recorded, found) refl) w.sound
+        stepped_whole settings h t (Queued id) next life w.keeps refl refl joins (rw (w.keeps.recorded, found) refl) w.sound
         (record { rows = w.agrees.rows; nodes = w.agrees.nodes; asks = rw found (asks_queued t.asks h.asks id app w.agrees.asks none); closings = w.agrees.closings; masters = w.agrees.masters })
-        (subst (NodesInvariant h.nodes h.book) (sym (ap (drop 1) front)) good) (record { apart = w.book.apart; rows = w.book.rows; left = w.book.left; launches = w.book.launches })
+        (subst (NodesInvariant (astray_at settings h t) h.nodes h.book) (sym (ap (drop 1) front)) good) (record { apart = w.book.apart; rows = w.book.rows; left = w.book.left; launches = w.book.launches })
 
     idle : PreservesContainersTo settings h t (sched_worked (sched_quiet t)) → PreservesCore settings h t (sched_worked (sched_quiet t))
     idle joins = idle_whole settings h t w (scheds.AttemptAdded id) rest front t.main joins good

@@ -5,8 +5,9 @@ use Rattle.rm_types.specs.declared.containers.Cause.TheVariants as causes
 use Rattle.rm_book.specs.Books.{book_row as book_row_of}
 use Rattle.rm_states.specs.declared.attempt.states.AttemptState.TheVariants as attempts
 use Rattle.rm_tables.specs.declared.events.SchedEvent.TheVariants as scheds
-use Rattle.rm_invariant.specs.events.SchedOutcomes.{HasNothingToDo, NoneEnds, SchedOutcome, ending_of}
+use Rattle.rm_invariant.specs.events.SchedOutcomes.{HasNothingToDo, NoneEnds, SchedOutcome, leaving_by}
 use Rattle.rm_invariant.specs.events.SchedOutcomes as outcomes
+use Rattle.rm_tables.specs.SchedEvents.{ends_as_done}
 
 -- which containers end
 abbrev pub ids_in : Option (Cause × List ContainerId) → List ContainerId
@@ -15,7 +16,7 @@ ids_in (Some ending) = ending.1
 
 module _ (t : Tables) (list : List ContainerId) where
   -- containers end, if there are any
-  ended : (e : SchedEvent) (cause : Cause) (ids : List ContainerId) → ending_of e list t ≡ Some (cause, ids) → (NoneEnds e list t → HasNothingToDo e list t) → SchedOutcome t list e (ended_by cause ids t)
+  ended : (e : SchedEvent) (cause : Cause) (ids : List ContainerId) → leaving_by e list t ≡ Some (cause, ids) → (NoneEnds e list t → HasNothingToDo e list t) → SchedOutcome t list e (ended_by cause ids t)
   ended e cause [] is nothing = outcomes.idles e (nothing (λ one more other. sym (ap ids_in other) ∙ ap ids_in is))
   ended e cause (id ∷ ids) is nothing = outcomes.ends e cause id ids is
 
@@ -58,6 +59,6 @@ module _ (t : Tables) (list : List ContainerId) where
   sched_outcome (scheds.AttemptRemoved id) = ended (scheds.AttemptRemoved id) causes.Attempt list refl (λ none. none)
   sched_outcome (scheds.Release attempt released) = let all : List ContainerId = once (filter (is_released attempt t) released) in ended (scheds.Release attempt released) causes.Released all refl (λ none. none)
   sched_outcome (scheds.NodeAdded node turn) = absorbed node turn (node_row t.nodes node) refl
-  sched_outcome (scheds.NodeDone node done) = let all : List ContainerId = once (filter (λ id. is_on node (book_row_of t.book id)) done) in ended (scheds.NodeDone node done) causes.Done all refl (λ none. none)
+  sched_outcome (scheds.NodeDone node done) = let all : List ContainerId = once (filter (ends_as_done node t) done) in ended (scheds.NodeDone node done) causes.Done all refl (λ none. none)
   sched_outcome (scheds.NodeUpdate node) = updated node (node_row t.nodes node) refl
   sched_outcome (scheds.NodeLost node) = ended (scheds.NodeLost node) causes.Node list refl (λ none. none)

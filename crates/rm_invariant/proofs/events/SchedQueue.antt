@@ -17,8 +17,8 @@ module _ (settings : Settings) (h : History) (t : Tables) (w : CoreInvariant set
   by_event (scheds.AttemptAdded id) rest front list ends = queued_whole settings h t w id rest front list
   by_event (scheds.AttemptRemoved id) rest front list ends = removed_whole settings h t w id rest front list ends
   by_event (scheds.Release attempt released) rest front list ends = released_whole settings h t w attempt released rest front f.served list
-  by_event (scheds.NodeAdded name turn) rest front list ends = added_whole settings h t w name turn rest front f.registered f.firsts list ends
-  by_event (scheds.NodeDone name done) rest front list ends = done_whole settings h t w name done rest front list
+  by_event (scheds.NodeAdded name turn) rest front list ends = added_whole settings h t w name turn rest front f.registered f.firsts f.pending list ends
+  by_event (scheds.NodeDone name done) rest front list ends = done_whole settings h t w name done rest front f.astray list
   by_event (scheds.NodeUpdate name) rest front list ends = pass_whole settings h t w name rest front f.current f.waits list f.once f.apps
   by_event (scheds.NodeLost name) rest front list ends = lost_whole settings h t w name rest front list ends
 

@@ -1,8 +1,9 @@
 -- What each event of the scheduler's queue may change: rows, by endings to be told or by grants; nodes, by launches that go and by a report that is
 -- absorbed; what is asked for, the book, and the main queue, by events that start and begin nothing. All else stays.
-use Rattle.rm_invariant.proofs.Common.{◌≡◌, ℕ, List, [], ◌∷◌, ◌++◌, Bool, false, ◌||◌, ◌∙◌, flat_map-append, list_any-append, Option, None, Some, filter, fold, map, list_any, flat_map, refl, sym, ap, Closing, Grant, Entry, AppId, ContainerId, BookRow, BookOf, after, MainEvent, SchedEvent, NodeRow, AppRow, Tables, Absorb, Unlaunch, History, live_state, changed, changed_row, closed, closed_in, closed_one, closings_of, grants_on, is_masters_in, losts_of, masters_granted, rows_after_grant, row_of, sched_step, unlaunched, unlaunched_at, unlaunched_here, unlaunched_on, unlaunched_one, waits_for_master, with_node, with_row, taken_in, Resource, Held}
+use Rattle.rm_invariant.proofs.Common.{◌≡◌, ℕ, List, [], ◌∷◌, ◌++◌, Bool, false, ◌||◌, ◌∙◌, flat_map-append, list_any-append, Option, None, Some, filter, fold, map, list_any, flat_map, refl, sym, ap, Grant, Entry, AppId, ContainerId, BookRow, BookOf, after, MainEvent, SchedEvent, NodeRow, AppRow, Tables, Absorb, Unlaunch, History, live_state, changed, changed_row, closed, closed_in, closed_one, closings_of, grants_on, is_masters_in, losts_of, masters_granted, rows_after_grant, row_of, sched_step, unlaunched, unlaunched_at, unlaunched_here, unlaunched_on, unlaunched_one, waits_for_master, with_node, with_row, taken_in, Resource, Held}
 use Rattle.std.proofs.lemmas.List.{append-nil}
 use Rattle.rm_types.specs.declared.containers.Cause.TheVariants as causes
+use Rattle.rm_types.specs.declared.containers.ClosingOf.{ClosingOf}
 use Rattle.rm_book.specs.Books.{book_row as book_row_of, without_rows, book_with_taken, with_grants}
 use Rattle.rm_tables.specs.declared.changes.AttemptChange.TheVariants as of_attempt
 use Rattle.rm_tables.specs.declared.changes.RowChange.TheVariants as of_app
@@ -17,8 +18,8 @@ use Rattle.rm_invariant.proofs.events.SchedOutcomes.{sched_outcome}
 -- WHAT IS KEPT BY EACH CHANGE
 
 -- of rows: where endings are to be told, and where containers are granted
-pub closed_keeps : (R : List (AppId × Option AppRow) → Type 0) → ((one : Closing) (rows : List (AppId × Option AppRow)) → R rows → R (with_row (closed one) one.id.attempt.app rows))
-    → (closings : List Closing) (rows : List (AppId × Option AppRow)) → R rows → R (closed_in rows closings)
+pub closed_keeps : (R : List (AppId × Option AppRow) → Type 0) → ((one : ClosingOf) (rows : List (AppId × Option AppRow)) → R rows → R (with_row (closed one) one.attempt.app rows))
+    → (closings : List ClosingOf) (rows : List (AppId × Option AppRow)) → R rows → R (closed_in rows closings)
 closed_keeps R keeps [] rows before = before
 closed_keeps R keeps (one ∷ closings) rows before = closed_keeps R keeps closings (closed_one rows one) (keeps one rows before)
 
@@ -47,7 +48,7 @@ module _ (N : List (List ℕ × NodeRow) → Type 0) (keeps : (id : ContainerId)
 -- rows of which none changed, or some have more endings to tell, or some were granted containers
 pub data RowsAfter (rows : List (AppId × Option AppRow)) : List (AppId × Option AppRow) → Type 0 where
   same : RowsAfter rows rows
-  closed_so : (closings : List Closing) → RowsAfter rows (closed_in rows closings)
+  closed_so : (closings : List ClosingOf) → RowsAfter rows (closed_in rows closings)
   granted_so : (grants : List Grant) → RowsAfter rows (fold rows_after_grant rows grants)
 
 -- nodes of which none changed, or launches went, or a report was absorbed as well
@@ -76,7 +77,7 @@ pub record SchedShape (t : Tables) (done : Entry × Tables) : Type 0 where
   pub more : List MainEvent
   pub main : done.1.main ≡ t.main ++ more
   pub quiet : IsQuiet more
-  pub rest : done.1 ≡ record t { rows = done.1.rows; nodes = done.1.nodes; book = done.1.book; main = done.1.main; asks = done.1.asks }
+  pub rest : done.1 ≡ record t { rows = done.1.rows; nodes = done.1.nodes; book = done.1.book; main = done.1.main; asks = done.1.asks; departed = done.1.departed }
 
 -- what is posted of masters' containers that left or were granted
 made_quiet : {X : Type 0} (make : X → MainEvent) → ((x : X) → IsQuiet (make x ∷ [])) → (xs : List X) → IsQuiet (map make xs)
@@ -143,7 +144,7 @@ sched_parts h t list e done (outcomes.idles one nothing) = refl
 sched_parts h t list e done _ = refl
 
 -- what each such change keeps is kept by an event
-pub rows_keep : (R : List (AppId × Option AppRow) → Type 0) → ((one : Closing) (rows : List (AppId × Option AppRow)) → R rows → R (with_row (closed one) one.id.attempt.app rows))
+pub rows_keep : (R : List (AppId × Option AppRow) → Type 0) → ((one : ClosingOf) (rows : List (AppId × Option AppRow)) → R rows → R (with_row (closed one) one.attempt.app rows))
     → ((id : ContainerId) (rows : List (AppId × Option AppRow)) → R rows → R (with_row (changed (of_app.OfAttempt (of_attempt.Grant id))) id.attempt.app rows))
     → (rows next : List (AppId × Option AppRow)) → R rows → RowsAfter rows next → R next
 rows_keep R closes grants rows next before RowsAfter.same = before

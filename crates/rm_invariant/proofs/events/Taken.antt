@@ -4,14 +4,18 @@ use Rattle.std.proofs.Common.{nat_lt, is_some}
 use Rattle.std.specs.Prelude.{option_map}
 use Rattle.rm_book.specs.Books.{BookRowsAreApart}
 use Rattle.rm_model.specs.Absorbing.{may_take as may_take_told, with_counted as with_told}
-use Rattle.rm_model.specs.Attempts.{is_current}
-use Rattle.rm_model.specs.Containers.{lives_elsewhere, judged_row as row_told}
+use Rattle.rm_model.specs.Attempts.{is_wanted}
+use Rattle.rm_types.specs.Records.{Records}
+use Rattle.rm_types.specs.declared.settings.Settings.{Settings}
+use Rattle.rm_model.specs.Containers.{is_pending, lives_elsewhere, judged_row as row_told}
 use Rattle.rm_model.specs.State.{NodeState}
-use Rattle.rm_tables.specs.Absorbing.{booked_at, is_current_in, is_elsewhere, reported_in}
+use Rattle.rm_tables.specs.Absorbing.{booked_at, is_elsewhere, is_pending_in, reported_in}
+use Rattle.rm_tables.specs.Leaving.{is_wanted_in}
+use Rattle.rm_refinement.proofs.Recorded.{wanted_same}
 use Rattle.rm_refinement.proofs.Rows.{any_alike, first_alone, found_alike}
 use Rattle.rm_invariant.specs.events.Here.{FirstsKnown, RowsKnow}
 
-module _ (m : Scene) (t : Tables) (name : List ℕ) (row : NodeRow) (node : NodeState) (recorded : m.records ≡ t.tree) (epoch : m.life.epoch ≡ t.epoch) (same : SameRows t.book.rows m.life.book) (apart : BookRowsAreApart t.book.rows)
+module _ (settings : Settings) (m : Scene) (t : Tables) (pending : (id : ContainerId) → is_pending_in t id ≡ is_pending settings m id) (name : List ℕ) (row : NodeRow) (node : NodeState) (recorded : m.records ≡ t.tree) (epoch : m.life.epoch ≡ t.epoch) (same : SameRows t.book.rows m.life.book) (apart : BookRowsAreApart t.book.rows)
     (know : RowsKnow t) (firsts : FirstsKnown m t.rows) (named : node.name ≡ name) (alike : bare_node t.book name row ≡ plain_node node) where
   -- WHERE A CONTAINER STANDS
 
@@ -81,66 +85,68 @@ module _ (m : Scene) (t : Tables) (name : List ℕ) (row : NodeRow) (node : Node
   offered : capability_of t.book name ≡ node.capability
   offered = ap (λ (x : PlainNode). x.capability) alike
 
-  current_same : (held : Held) → is_current_in t.tree.apps held.id.attempt ≡ is_current m held.id.attempt
-  current_same held = rw recorded refl
+  wants_same : (held : Held) → is_wanted_in t.tree.apps held.id ≡ is_wanted m held.id
+  wants_same held = ap (λ (r : Records). is_wanted_in r.apps held.id) (sym recorded) ∙ wanted_same m held.id
 
-  -- of an attempt that goes on the tables and the judge agree whether it was kept when the life began
-  reported_same : (held : Held) → is_current m held.id.attempt ≡ true → reported_in t held ≡ as_reported m held
+  -- of one that is wanted the tables and the judge agree whether it was kept when the life began
+  reported_same : (held : Held) → is_wanted m held.id ≡ true → reported_in t held ≡ as_reported m held
   reported_same held current = by (row_of t.rows held.id.attempt.app) refl
     where
       by : (o : Option AppRow) → row_of t.rows held.id.attempt.app ≡ o → reported_in t held ≡ as_reported m held
       by None e =
           let none = know held.id.attempt.app e in
-          absurd (let x : false ≡ true = rw none at (current_same held ∙ current) in false≢true x)
+          absurd (let x : false ≡ true = rw none at (wants_same held ∙ current) in false≢true x)
       by (Some one) e =
           let first = firsts held.id.attempt one e in
           rw (e, epoch, first) refl
 
   -- one that counts may be taken by both
-  may_same : (taken : List Held) (held : Held) → tables_may_take t name row.capability taken held ≡ may_take_told m node taken held
-  may_same taken held = rw (current_same held, elsewhere_same held.id, capability) refl
+  may_same : (taken : List Held) (held : Held) → tables_may_take t name row.capability taken held ≡ may_take_told settings m node taken held
+  may_same taken held = rw (pending held.id, wants_same held, elsewhere_same held.id, capability) refl
 
-  both_take : (taken : List Held) (o : Option Held) → tables_with_counted t name row.capability taken o ≡ with_told m node taken o
+  both_take : (taken : List Held) (o : Option Held) → tables_with_counted t name row.capability taken o ≡ with_told settings m node taken o
   both_take taken None = refl
   both_take taken (Some held) = rw (may_same taken held) refl
 
-  -- one of an attempt that doesn't go on is taken by neither
-  not_in_tables : (taken : List Held) (held : Held) → is_current m held.id.attempt ≡ false → (b : Bool) → tables_with_counted t name row.capability taken (if b then Some held else None) ≡ taken
+  -- one that isn't wanted is taken by neither
+  not_in_tables : (taken : List Held) (held : Held) → is_wanted m held.id ≡ false → (b : Bool) → tables_with_counted t name row.capability taken (if b then Some held else None) ≡ taken
   not_in_tables taken held over false = refl
-  not_in_tables taken held over true = let none = current_same held ∙ over in rw none (by (not (is_held taken held.id)))
+  not_in_tables taken held over true = let none = wants_same held ∙ over in rw none (by (not (is_pending_in t held.id)) (not (is_held taken held.id)))
     where
-      by : (b : Bool) → (if b && false then taken ++ held ∷ [] else taken) ≡ taken
-      by true = refl
-      by false = refl
+      by : (a b : Bool) → (if a && (b && false) then taken ++ held ∷ [] else taken) ≡ taken
+      by true true = refl
+      by true false = refl
+      by false b = refl
 
-  not_in_life : (taken : List Held) (held : Held) → is_current m held.id.attempt ≡ false → (b : Bool) → with_told m node taken (if b then Some held else None) ≡ taken
+  not_in_life : (taken : List Held) (held : Held) → is_wanted m held.id ≡ false → (b : Bool) → with_told settings m node taken (if b then Some held else None) ≡ taken
   not_in_life taken held over false = refl
-  not_in_life taken held over true = rw over (by (not (is_held taken held.id)))
+  not_in_life taken held over true = rw over (by (not (is_pending settings m held.id)) (not (is_held taken held.id)))
     where
-      by : (b : Bool) → (if b && false then taken ++ held ∷ [] else taken) ≡ taken
-      by true = refl
-      by false = refl
+      by : (a b : Bool) → (if a && (b && false) then taken ++ held ∷ [] else taken) ≡ taken
+      by true true = refl
+      by true false = refl
+      by false b = refl
 
-  reported_taken : (taken : List Held) (held : Held) (b : Bool) → is_current m held.id.attempt ≡ b → tables_with_counted t name row.capability taken (reported_in t held) ≡ with_told m node taken (as_reported m held)
+  reported_taken : (taken : List Held) (held : Held) (b : Bool) → is_wanted m held.id ≡ b → tables_with_counted t name row.capability taken (reported_in t held) ≡ with_told settings m node taken (as_reported m held)
   reported_taken taken held true e = ap (tables_with_counted t name row.capability taken) (reported_same held e) ∙ both_take taken (as_reported m held)
   reported_taken taken held false e =
       not_in_tables taken held e (nat_lt held.id.epoch t.epoch && was_first held.id.attempt (row_of t.rows held.id.attempt.app))
       ∙ sym (not_in_life taken held e (nat_lt held.id.epoch m.life.epoch && attempt_was_first m held.id.attempt))
 
-  one_taken : (taken : List Held) (held : Held) → tables_with_counted t name row.capability taken (counted_in t name held) ≡ with_told m node taken (as_counted m node held)
+  one_taken : (taken : List Held) (held : Held) → tables_with_counted t name row.capability taken (counted_in t name held) ≡ with_told settings m node taken (as_counted m node held)
   one_taken taken held = rw offered (by (is_some node.capability))
     where
-      by : (b : Bool) → tables_with_counted t name row.capability taken (if b then booked_at name (find (is_of held.id) t.book.rows) else reported_in t held) ≡ with_told m node taken (if b then as_booked m node held else as_reported m held)
+      by : (b : Bool) → tables_with_counted t name row.capability taken (if b then booked_at name (find (is_of held.id) t.book.rows) else reported_in t held) ≡ with_told settings m node taken (if b then as_booked m node held else as_reported m held)
       by true = ap (tables_with_counted t name row.capability taken) (booked_same held) ∙ both_take taken (as_booked m node held)
-      by false = reported_taken taken held (is_current m held.id.attempt) refl
+      by false = reported_taken taken held (is_wanted m held.id) refl
 
   all_taken : (report taken : List Held)
-      → fold (λ taken held. tables_with_counted t name row.capability taken (counted_in t name held)) taken report ≡ fold (λ taken held. with_told m node taken (as_counted m node held)) taken report
+      → fold (λ taken held. tables_with_counted t name row.capability taken (counted_in t name held)) taken report ≡ fold (λ taken held. with_told settings m node taken (as_counted m node held)) taken report
   all_taken [] taken = refl
   all_taken (held ∷ report) taken =
       ap (λ (l : List Held). fold (λ taken held. tables_with_counted t name row.capability taken (counted_in t name held)) l report) (one_taken taken held)
-      ∙ all_taken report (with_told m node taken (as_counted m node held))
+      ∙ all_taken report (with_told settings m node taken (as_counted m node held))
 
   -- the same are taken of the whole report
-  pub taken_same : taken_in t name row ≡ taken_of m node
-  taken_same = all_taken row.running [] ∙ ap (λ (report : List Held). fold (λ taken held. with_told m node taken (as_counted m node held)) [] report) running
+  pub taken_same : taken_in t name row ≡ taken_of settings m node
+  taken_same = all_taken row.running [] ∙ ap (λ (report : List Held). fold (λ taken held. with_told settings m node taken (as_counted m node held)) [] report) running

@@ -3,7 +3,7 @@ use Rattle.rm_invariant.proofs.Common.{◌≡◌, ℕ, List, [], ◌∷◌, Bool
 use Rattle.std.proofs.Common.{is_some}
 use Rattle.std.specs.Prelude.{option_and_then, option_map}
 use Rattle.rm_types.specs.declared.entries.Entry.TheVariants.{Pass}
-use Rattle.rm_model.specs.Nodes.{is_ready as ready_told}
+use Rattle.rm_model.specs.Nodes.{is_ready as ready_told, judged_node}
 use Rattle.rm_model.specs.Passing.{first_fit_on, pass_of, waits_for_nodes}
 use Rattle.rm_model.specs.Rules.{MayPass}
 use Rattle.rm_model.specs.State.{NodeState}
@@ -31,6 +31,7 @@ use Rattle.rm_invariant.proofs.events.Next.{grants_next}
 use Rattle.rm_invariant.proofs.events.OnNode.{all_now, all_on}
 use Rattle.rm_invariant.proofs.events.Passed.{passed_agrees}
 use Rattle.rm_invariant.proofs.events.Passing.{pass_same}
+use Rattle.rm_invariant.specs.events.Here.{astray_at}
 
 module _ (settings : Settings) (h : History) (t : Tables) (w : CoreInvariant settings h t) (name : List ℕ) (rest : List SchedEvent) (front : t.sched ≡ scheds.NodeUpdate name ∷ rest)
     (others : OthersCurrent t) (waits : still_waits t ≡ waits_for_nodes settings (abstract_scene h t)) where
@@ -43,7 +44,7 @@ module _ (settings : Settings) (h : History) (t : Tables) (w : CoreInvariant set
     where
       by : (o : Option NodeRow) → node_row t.nodes name ≡ o → (row : NodeRow) × (node_row t.nodes name ≡ Some row)
       by None e =
-          let k = known_node h.nodes h.book t.sched name (scheds.NodeUpdate name) rest front (text_itself name) w.nodes in
+          let k = known_node (astray_at settings h t) h.nodes h.book t.sched name (scheds.NodeUpdate name) rest front (text_itself name) w.nodes in
           let same = w.agrees.nodes name in
           let x : None ≡ Some (plain_node k.0) = sym (ap (option_map (bare_node t.book name)) e) ∙ same ∙ ap (option_map plain_node) k.1 in
           absurd (let y = x in cc)
@@ -53,8 +54,8 @@ module _ (settings : Settings) (h : History) (t : Tables) (w : CoreInvariant set
     abbrev pub grants : List Grant
     grants = grants_on name row t
 
-    beat : AtBeat (abstract_scene h t) name
-    beat = pass_lawful (abstract_scene h t) t.sched name rest front w.nodes
+    beat : AtBeat settings (abstract_scene h t) name
+    beat = pass_lawful settings (abstract_scene h t) t.sched name rest front w.nodes
 
     granted_same : grants ≡ pass_of settings (abstract_scene h t) beat.node
     granted_same = pass_same settings (abstract_scene h t) t refl refl w.agrees current name row beat.node waits found beat.there
@@ -66,8 +67,8 @@ module _ (settings : Settings) (h : History) (t : Tables) (w : CoreInvariant set
         (let may : MayPass settings (abstract_scene h t) beat.node grants = record { beat = beat.beat; none_done = beat.none_done; grants_are = granted_same } in rw beat.there may)
 
     -- the nodes are good after it
-    pub passed_nodes : NodesInvariant (passes (at_event settings h t w (scheds.NodeUpdate name) rest front) name grants).nodes (passes (at_event settings h t w (scheds.NodeUpdate name) rest front) name grants).book rest
-    passed_nodes = pass_good (at_event settings h t w (scheds.NodeUpdate name) rest front) t.sched name grants rest front (all_on t name row) w.nodes
+    pub passed_nodes : NodesInvariant (astray_at settings h t) (passes (at_event settings h t w (scheds.NodeUpdate name) rest front) name grants).nodes (passes (at_event settings h t w (scheds.NodeUpdate name) rest front) name grants).book rest
+    passed_nodes = pass_good (astray_at settings h t) (at_event settings h t w (scheds.NodeUpdate name) rest front) t.sched name grants rest front (all_on t name row) w.nodes
 
     next_grants : AreNext t.rows h.granted grants
     next_grants = grants_next (abstract_life h t) t w.agrees current name row
@@ -103,8 +104,8 @@ module _ (settings : Settings) (h : History) (t : Tables) (w : CoreInvariant set
         let m : Scene = at_event settings h t w (scheds.NodeUpdate name) rest front in
         let life : LifeState = passes m name grants in
         let made : Tables = passed_with grants t in
-        stepped_whole settings h t (Pass name grants) (sched_popped made) life joins refl w.sound (queues_agree life made made.main (drop 1 t.sched) (passed_agrees m t w.agrees name grants next_grants))
-        (subst (NodesInvariant life.nodes life.book) (sym (ap (drop 1) front)) passed_nodes) passed_book
+        stepped_whole settings h t (Pass name grants) (sched_popped made) life w.keeps refl refl joins refl w.sound (queues_agree life made made.main (drop 1 t.sched) (passed_agrees m t w.agrees name grants next_grants))
+        (subst (NodesInvariant (astray_at settings h t) life.nodes life.book) (sym (ap (drop 1) front)) passed_nodes) passed_book
 
     module _ (once : MastersAskOnce t) (apps : AppsOnce t) where
       -- the history after the pass
@@ -114,7 +115,7 @@ module _ (settings : Settings) (h : History) (t : Tables) (w : CoreInvariant set
       -- what is said of attempts and of containers after it
       both : BothSay settings (history_after h grants) (tables_after t grants)
       both =
-          all_say settings t.rows grants h t (w.keeps.all, w.marks) w.book next_grants (all_now t name row) absorbed (all_ready settings h t w.keeps.all w.agrees.asks once current name row)
+          all_say settings t.rows grants h t (w.keeps.all, w.marks) w.sound w.book next_grants (all_now t name row) absorbed (all_ready settings h t w.keeps.all w.agrees.asks once current name row)
           (masters_once settings h t w.keeps.all w.agrees.asks once current apps name row)
 
       -- the pass joins

@@ -1,11 +1,12 @@
 -- A master allocates, as a whole step: it asks for containers, releases some, and is told of some and of endings. It has no say over its own
 -- container: priority 0 is the manager's.
-use Rattle.rm_invariant.proofs.Common.{◌≡◌, ℕ, ◌+◌, ◌||◌, not, List, [], ◌∷◌, ◌++◌, Bool, true, false, Option, None, Some, filter, map, refl, sym, ◌∙◌, ap, subst, arith, if◌then◌else◌, list_any, nat_tests, Ask, AskOf, Served, Closing, Grant, AppId, AttemptId, ContainerId, Allocate, Reply, Settings, is_app, is_attempt, is_container, and_false, released_by, is_new_to_master, row_allocated, untold_rows, reply_to, LifeState, MasterState, Row, SchedEvent, AppRow, Dialogue, Tables, row_of, with_row, History, abstract_scene}
+use Rattle.rm_invariant.proofs.Common.{◌≡◌, ℕ, ◌+◌, ◌||◌, not, List, [], ◌∷◌, ◌++◌, Bool, true, false, Option, None, Some, filter, map, refl, sym, ◌∙◌, ap, subst, arith, if◌then◌else◌, list_any, nat_tests, Ask, AskOf, Served, Closing, Grant, AppId, AttemptId, ContainerId, Allocate, Reply, Settings, is_app, is_attempt, is_container, and_false, released_by, is_new_to_master, row_allocated, reply_to, LifeState, MasterState, Row, SchedEvent, AppRow, Dialogue, Tables, row_of, with_row, History, abstract_scene}
 use Rattle.std.proofs.Common.{◌==◌, count_by}
+use Rattle.rm_types.specs.declared.containers.ClosingOf.{ClosingOf}
 use Rattle.rm_types.specs.declared.replies.Reply.TheVariants.{Allocated}
 use Rattle.rm_types.specs.declared.messages.Message.TheVariants as messages
 use Rattle.rm_types.specs.declared.messages.Sender.TheVariants as senders
-use Rattle.rm_model.specs.MasterReplies.{allocates, is_line_of, with_ask, with_asks}
+use Rattle.rm_model.specs.MasterReplies.{allocates, is_line_of, with_ask, with_asks, late_rows, new_grants}
 use Rattle.rm_tables.specs.declared.events.SchedEvent.TheVariants as scheds
 use Rattle.rm_invariant.specs.apps.View.{is_ask, View, changed_if, is_add, is_queueing, one_if, view}
 use Rattle.rm_invariant.specs.Step.{AppsInvariant}
@@ -78,9 +79,9 @@ asks_kept q attempt lines [] all = refl
 asks_kept q attempt lines (ask ∷ more) all = asks_kept q attempt (with_ask attempt lines ask) more all.1 ∙ ask_kept q attempt ask all.0 lines
 
 -- the same containers are in the book
-allocated_any : (test : ContainerId → Bool) (told released : List ContainerId) (book : List Row) → list_any (λ row. test row.id) (map (row_allocated told released) book) ≡ list_any (λ row. test row.id) book
-allocated_any test told released [] = refl
-allocated_any test told released (row ∷ book) = let more = allocated_any test told released book in rw more refl
+allocated_any : (test : ContainerId → Bool) (told late released : List ContainerId) (book : List Row) → list_any (λ row. test row.id) (map (row_allocated told late released) book) ≡ list_any (λ row. test row.id) book
+allocated_any test told late released [] = refl
+allocated_any test told late released (row ∷ book) = let more = allocated_any test told late released book in rw more refl
 
 -- the same attempts are finishing
 module _ (id : AttemptId) (last_reply : Reply) where
@@ -113,16 +114,16 @@ releases_more : (p : SchedEvent → Bool) → ((attempt : AttemptId) (list : Lis
 releases_more p never sched events all = let e = count_append p sched events in let n = releases_none p never events all in omega (arith, e, n)
 
 -- what a master is told changes its row in nothing that is spoken of
-abbrev pub told_row : (Option Dialogue → Option Dialogue) → (List Closing → List Closing) → AppRow → AppRow
+abbrev pub told_row : (Option Dialogue → Option Dialogue) → (List ClosingOf → List ClosingOf) → AppRow → AppRow
 told_row talk tell row = talking (talk row.dialogue) (tell row.closings) row
 
-told_one : (talk : Option Dialogue → Option Dialogue) (tell : List Closing → List Closing) (b : Bool) (o : Option AppRow) → IsTalking o (changed_if b (told_row talk tell) o)
+told_one : (talk : Option Dialogue → Option Dialogue) (tell : List ClosingOf → List ClosingOf) (b : Bool) (o : Option AppRow) → IsTalking o (changed_if b (told_row talk tell) o)
 told_one talk tell true None = record { dialogue = None; closings = []; is = refl }
 told_one talk tell true (Some row) = record { dialogue = talk row.dialogue; closings = tell row.closings; is = refl }
 told_one talk tell false o = same_talking o
 
 module _ (settings : Settings) (h : History) (t : Tables) (k : AppsInvariant settings h t) (all : ContainersInvariant h t) (id : AttemptId) (last : ℕ) (asks : List Ask) (release : List ContainerId) (ordinary : AllOrdinary asks)
-    (next : ℕ) (grants : List Grant) (ended : List Closing) (talk : Option Dialogue → Option Dialogue) (tell : List Closing → List Closing) (events : List SchedEvent) (releases : AllReleases events) where
+    (next : ℕ) (grants : List Grant) (ended : List Closing) (talk : Option Dialogue → Option Dialogue) (tell : List ClosingOf → List ClosingOf) (events : List SchedEvent) (releases : AllReleases events) where
   abbrev life_after : LifeState
   life_after = allocates (abstract_scene h t) id asks release (Allocated next grants ended)
 
@@ -142,13 +143,13 @@ module _ (settings : Settings) (h : History) (t : Tables) (k : AppsInvariant set
       let kept_asks = asks_kept q id h.asks asks ordinary in
       let adds = releases_more (is_add q.app) (λ a l. refl) t.sched events releases in
       let queueings = releases_more (is_queueing q) (λ a l. refl) t.sched events releases in
-      let held = allocated_any (λ c. is_attempt c.attempt q) (map (λ row. row.id) (untold_rows (abstract_scene h t) id)) (released_by (abstract_scene h t) (record { attempt = id; list = release })) h.book in
+      let held = allocated_any (λ c. is_attempt c.attempt q) (map (λ row. row.id) (new_grants (abstract_scene h t) id)) (map (λ row. row.id) (late_rows (abstract_scene h t) id)) (released_by (abstract_scene h t) (record { attempt = id; list = release })) h.book in
       rw (kept_asks, adds, queueings, held) refl
 
   marked : (c : ContainerId) → container_view allocating allocated c ≡ container_view h t c
   marked c =
       let removals = releases_more (is_attempt_removal c) (λ a l. refl) t.sched events releases in
-      let living = allocated_any (λ d. is_container d c) (map (λ row. row.id) (untold_rows (abstract_scene h t) id)) (released_by (abstract_scene h t) (record { attempt = id; list = release })) h.book in
+      let living = allocated_any (λ d. is_container d c) (map (λ row. row.id) (new_grants (abstract_scene h t) id)) (map (λ row. row.id) (late_rows (abstract_scene h t) id)) (released_by (abstract_scene h t) (record { attempt = id; list = release })) h.book in
       let texts = same_texts id (Allocated next grants ended) c.attempt h.masters.registered in
       rw (removals, living, texts) refl
 

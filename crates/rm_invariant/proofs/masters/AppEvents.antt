@@ -8,17 +8,16 @@ use Rattle.rm_types.specs.declared.operations.How.TheVariants as ways
 use Rattle.rm_types.specs.declared.operations.Op.TheVariants as ops
 use Rattle.rm_states.specs.declared.app.states.AppState.TheVariants as apps
 use Rattle.rm_states.specs.declared.attempt.states.AttemptState.TheVariants as attempts
-use Rattle.rm_states.specs.declared.app.states.AppEvent.TheVariants as app_events
 use Rattle.rm_tables.specs.SchedEvents.{added_by}
 use Rattle.rm_tables.specs.declared.changes.RowChange.TheVariants as of_app
 use Rattle.rm_tables.specs.declared.events.MainEvent.TheVariants as mains
 use Rattle.rm_tables.specs.declared.events.SchedEvent.TheVariants as scheds
-use Rattle.rm_invariant.specs.apps.Invariant.{ActiveInvariant, CurrentInvariant, RowInvariant, StateInvariant, is_active}
+use Rattle.rm_invariant.specs.apps.Invariant.{RowInvariant, StateInvariant, is_active}
 use Rattle.rm_invariant.specs.Step.{AppsInvariant, Step}
 use Rattle.rm_invariant.specs.apps.View.{View, view}
 use Rattle.rm_invariant.proofs.apps.Events.{accepted_idle, accepted_none, accepted_now, accepting, quiet, saved_in_state, saved_none, retire_idle, started}
 use Rattle.rm_invariant.proofs.apps.Queueing.{added_steps, queued_steps}
-use Rattle.rm_invariant.proofs.apps.Own.{saved_quiet, active_row}
+use Rattle.rm_invariant.proofs.apps.Own.{saved_quiet}
 use Rattle.rm_invariant.proofs.apps.Found.{row_changed}
 use Rattle.rm_invariant.proofs.apps.Acting.{ending}
 use Rattle.rm_invariant.proofs.apps.Ending.{SomeStep, done_steps, kill_steps, saved_wished_steps}
@@ -31,7 +30,6 @@ use Rattle.rm_invariant.proofs.masters.Others.{accepted_marks, over_marks, over_
 use Rattle.rm_invariant.proofs.masters.Stepping.{joins_with, marks_stay, marks_still}
 use Rattle.rm_invariant.proofs.masters.Effects.{main_taken, op_issued, sched_posted, main_posted, sched_taken}
 use Rattle.rm_invariant.proofs.masters.Removed.{none_joins}
-use Rattle.rm_invariant.proofs.masters.Saying.{was_final}
 
 -- an application that was saved has no attempt
 alone_by : (settings : Settings) (q : AttemptId) (row : AppRow) (v : View) → row.state ≡ apps.Submitted → RowInvariant settings q (Some row) v → row.current ≡ None
@@ -41,20 +39,11 @@ alone_by settings q row v is good = let says = subst (λ (s : AppState). StateIn
 new_alone : (settings : Settings) (q : AttemptId) (row : AppRow) (v : View) → row.state ≡ apps.New → RowInvariant settings q (Some row) v → row.current ≡ None
 new_alone settings q row v is good = let says = subst (λ (s : AppState). StateInvariant settings q s row v) is good.1 in says.0.no_attempt
 
--- the last attempt of an active application, where it has ended, has the number of the kept ones
-last_by : (settings : Settings) (q : AttemptId) (row : AppRow) (current : Current) (v : View) → row.current ≡ Some current → is_active row.state ≡ true → current.state ≡ attempts.Ended → RowInvariant settings q (Some row) v
-    → current.number ≡ length (attempts_in v.found)
-last_by settings q row current v is a e good =
-    let active = active_row settings q row v a good in
-    let says : ActiveInvariant settings q (Some current) row.wish v = rw is at active.current in
-    let own : CurrentInvariant settings attempts.Ended (record { app = q.app; number = current.number }) row.wish v = rw e at says.0 in
-    own.1
-
 -- an application is killed whose attempt lives: the end of that is issued
 kill_marks : (c : ContainerId) (row : AppRow) (v : ContainerView) (current : Current) → row.current ≡ Some current → Alive current.state → ContainerInvariant c (Some row) v → ContainerInvariant c (Some (changed of_app.Kill row)) v
 kill_marks c row v current is st good =
-    let says : ContainerByNumber c (current.number == c.attempt.number) current v = rw is at good.1.0 in
-    (good.0, (rw is (by current.state refl st (current.number == c.attempt.number) says), λ f. good.1.1 (was_final app_events.Kill refl row.state f)))
+    let says : ContainerByNumber c (current.number == c.attempt.number) current v = rw is at good.1 in
+    (good.0, rw is (by current.state refl st (current.number == c.attempt.number) says))
   where
     by : (s : AttemptState) → current.state ≡ s → Alive s → (b : Bool) → ContainerByNumber c b current v → ContainerByNumber c b (record current { state = killed_state current.state }) v
     by s e st false says = says
@@ -72,8 +61,8 @@ later_marks : (c : ContainerId) (row : AppRow) (v : ContainerView) (current : Cu
     → ContainerInvariant c (Some row) v → ContainerInvariant c (Some (changed of_app.Kill row)) v
 later_marks c row v current is which good =
     let same = later_state current.state which in
-    let says : ContainerByCurrent c (Some current) v = rw is at good.1.0 in
-    (good.0, (rw (is, same) says, λ f. good.1.1 (was_final app_events.Kill refl row.state f)))
+    let says : ContainerByCurrent c (Some current) v = rw is at good.1 in
+    (good.0, rw (is, same) says)
 
 module _ (settings : Settings) (h : History) (t : Tables) (k : AppsInvariant settings h t) (all : ContainersInvariant h t) where
   -- an event of the main queue that no container counts is taken
@@ -203,13 +192,11 @@ module _ (settings : Settings) (h : History) (t : Tables) (k : AppsInvariant set
       decided_joins e (Some end) some =
           ends_joins (mains.AttemptDone a) rest front (λ c v. refl) a.app row found end.0 end.1 (λ c says. over_marks c row (container_view h t c) current is attempts.Ended e (inr (inr refl)) (current.number == c.attempt.number) refl says) some
       decided_joins e None some =
-          let last = last_by settings zero row current (view h t zero) is active e (rw found at (k.all zero)) in
           schedules_joins (mains.AttemptDone a) rest front (λ c v. refl) (next_in t a.app) (Quiet MainLane) h refl (λ c. refl) row found
           (λ c same says.
           let here : a.app ≡ c.attempt.app = same_app a.app c.attempt.app same in
-          let number : current.number ≡ length (attempts_in (record_of t.tree.apps c.attempt.app)) = rw (← here) last in
           let number_is : (length (attempts_in (record_of t.tree.apps a.app)) + 1) ≡ (length (attempts_in (record_of t.tree.apps c.attempt.app)) + 1) = rw here refl in
-          rw number_is (retried_marks c row (container_view h t c) current is e number (current.number == c.attempt.number) ((length (attempts_in (record_of t.tree.apps c.attempt.app)) + 1) == c.attempt.number) refl refl says)) some
+          rw number_is (retried_marks c row (container_view h t c) current is e (current.number == c.attempt.number) ((length (attempts_in (record_of t.tree.apps c.attempt.app)) + 1) == c.attempt.number) refl refl says)) some
 
       done_current : (s : AttemptState) → current.state ≡ s → DoneSteps (decision_of_attempt_state s row.wish a.app t) → DoneJoins (decision_of_attempt_state s row.wish a.app t)
       done_current attempts.Ended e some = decided_joins e (end_with t.settings row.wish (found_in t a.app) (last_end_in (found_in t a.app))) some
@@ -320,7 +307,7 @@ module _ (settings : Settings) (h : History) (t : Tables) (k : AppsInvariant set
         (started settings h t k id rest front row found st s may) h refl
         (marks_still h h t (record t { main = drop 1 t.main; rows = with_row (changed of_app.Issue) id t.rows; awaiting = t.awaiting ++ ops.App id s ∷ [] }) id (changed of_app.Issue) row (λ q. row_changed (changed of_app.Issue) id q t.rows) found
         (λ c. op_issued h (record (main_popped t) { rows = with_row (changed of_app.Issue) id t.rows }) c (ops.App id s) ∙ was (mains.AppStart id) rest front (λ c v. refl) c)
-        (λ c same says. same_marks c row (container_view h t c) (changed of_app.Issue row) (rw alone refl) (rw st refl) says) all)
+        (λ c same says. same_marks c row (container_view h t c) (changed of_app.Issue row) (rw alone refl) says) all)
 
   -- Retire, where nothing is to be removed, and where the application that completed first is
   module _ (rest : List MainEvent) (front : t.main ≡ mains.Retire ∷ rest) where

@@ -97,7 +97,7 @@ module _ (settings : Settings) (h : History) (t : Tables) (k : AppsInvariant set
       let at_row : row_of t.rows c.attempt.app ≡ Some row = rw a found in
       let says : ContainerInvariant c (Some row) (container_view h t c) = rw at_row at (all c).0 in
       let here : (current.number == c.attempt.number) ≡ true = rw a n in
-      let x : ContainerByNumber c (current.number == c.attempt.number) current (container_view h t c) = rw is at says.1.0 in
+      let x : ContainerByNumber c (current.number == c.attempt.number) current (container_view h t c) = rw is at says.1 in
       let y : ContainerByState c current.state current.lost (is_master_of c current.master) (container_view h t c) = rw here at x in
       by current.state st y
     where

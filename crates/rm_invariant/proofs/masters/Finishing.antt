@@ -1,7 +1,6 @@
 -- Which attempts are finishing once a registered master said that it finishes.
-use Rattle.rm_invariant.proofs.Common.{◌≡◌, ℕ, List, [], ◌∷◌, Bool, true, false, Option, None, Some, ◌++◌, find, map, refl, arith, if◌then◌else◌, nat_tests, AttemptId, is_attempt, MasterState}
+use Rattle.rm_invariant.proofs.Common.{◌≡◌, ℕ, List, [], ◌∷◌, Bool, true, false, Option, None, Some, ◌++◌, find, map, refl, arith, if◌then◌else◌, nat_tests, AttemptId, is_attempt, MasterState, Reply}
 use Rattle.std.proofs.Common.{is_some, option_and_then}
-use Rattle.rm_types.specs.declared.replies.Reply.TheVariants.{MasterRegistered}
 use Rattle.rm_invariant.specs.apps.View.{set_if}
 
 -- a master with what it said as it finished
@@ -37,18 +36,18 @@ finishing_after text id q [] there = by (is_attempt id q) there
 finishing_after text id q (one ∷ rest) there = one_more text id q one rest (is_attempt one.attempt id) (is_attempt one.attempt q) refl refl there (finishing_after text id q rest)
 
 -- a master as it registers
-abbrev pub new_master : AttemptId → MasterState
-new_master id = record { attempt = id; last_id = 0; last_reply = MasterRegistered; finishing = None }
+abbrev pub new_master : AttemptId → Reply → MasterState
+new_master id reply = record { attempt = id; last_id = 0; last_reply = reply; finishing = None }
 
 -- no attempt comes to be finishing as a master registers
-pub finishing_with_new : (id q : AttemptId) (masters : List MasterState) → is_some (text_in (masters ++ new_master id ∷ []) q) ≡ is_some (text_in masters q)
-finishing_with_new id q [] = by (is_attempt id q) refl
+pub finishing_with_new : (id : AttemptId) (reply : Reply) (q : AttemptId) (masters : List MasterState) → is_some (text_in (masters ++ new_master id reply ∷ []) q) ≡ is_some (text_in masters q)
+finishing_with_new id reply q [] = by (is_attempt id q) refl
   where
-    by : (b : Bool) → is_attempt id q ≡ b → is_some (text_in (new_master id ∷ []) q) ≡ false
+    by : (b : Bool) → is_attempt id q ≡ b → is_some (text_in (new_master id reply ∷ []) q) ≡ false
     by true e = rw e refl
     by false e = rw e refl
-finishing_with_new id q (one ∷ rest) = by (is_attempt one.attempt q) refl (finishing_with_new id q rest)
+finishing_with_new id reply q (one ∷ rest) = by (is_attempt one.attempt q) refl (finishing_with_new id reply q rest)
   where
-    by : (b : Bool) → is_attempt one.attempt q ≡ b → is_some (text_in (rest ++ new_master id ∷ []) q) ≡ is_some (text_in rest q) → is_some (text_in ((one ∷ rest) ++ new_master id ∷ []) q) ≡ is_some (text_in (one ∷ rest) q)
+    by : (b : Bool) → is_attempt one.attempt q ≡ b → is_some (text_in (rest ++ new_master id reply ∷ []) q) ≡ is_some (text_in rest q) → is_some (text_in ((one ∷ rest) ++ new_master id reply ∷ []) q) ≡ is_some (text_in (one ∷ rest) q)
     by true e h = rw e refl
     by false e h = rw e h

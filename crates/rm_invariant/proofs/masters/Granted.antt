@@ -112,7 +112,7 @@ module _ (settings : Settings) (h : History) (t : Tables) (k : AppsInvariant set
         let at_row : row_of t.rows d.attempt.app ≡ Some row = rw e found in
         let says : ContainerInvariant d (Some row) (container_view h t d) = rw at_row at (all d).0 in
         let here : (current.number == d.attempt.number) ≡ true = rw e n in
-        let x : ContainerByNumber d (current.number == d.attempt.number) current (container_view h t d) = rw is at says.1.0 in
+        let x : ContainerByNumber d (current.number == d.attempt.number) current (container_view h t d) = rw is at says.1 in
         let y : ContainerByState d current.state current.lost (is_master_of d current.master) (container_view h t d) = rw here at x in
         let z : ContainerByState d attempts.Granted current.lost (is_master_of d current.master) (container_view h t d) = rw st at y in
         by (is_master_of d current.master) refl z
@@ -158,7 +158,7 @@ module _ (settings : Settings) (h : History) (t : Tables) (k : AppsInvariant set
           let here : row_of t.rows c.attempt.app ≡ Some one = found ∙ is in
           let says : ContainerInvariant c (Some one) (container_view h t c) = rw here at (all c).0 in
           let now : ContainerInvariant c (Some one) (container_view_main c event (container_view h (main_popped t) c)) = subst (λ (v : ContainerView). ContainerInvariant c (Some one) v) (main_taken h t c event rest front) says in
-          let x : ContainerByNumber c (current.number == c.attempt.number) current (container_view_main c event (container_view h (main_popped t) c)) = rw at_ at now.1.0 in
+          let x : ContainerByNumber c (current.number == c.attempt.number) current (container_view_main c event (container_view h (main_popped t) c)) = rw at_ at now.1 in
           let y : ContainerByState c current.state current.lost (is_master_of c current.master) (container_view_main c event (container_view h (main_popped t) c)) = rw same at x in
           let z : ContainerByState c attempts.Granted current.lost false (container_view_main c event (container_view h (main_popped t) c)) = rw (st, not_mine) at y in
           let none = z.3 in

@@ -6,6 +6,7 @@ use Rattle.rm_states.specs.declared.attempt.states.AttemptState.TheVariants as a
 use Rattle.rm_tables.specs.declared.changes.RowChange.TheVariants as of_app
 use Rattle.rm_tables.specs.declared.changes.AttemptChange.TheVariants as of_attempt
 use Rattle.rm_tables.specs.declared.events.MainEvent.TheVariants as mains
+use Rattle.rm_tables.specs.Leaving.{is_stale_in}
 use Rattle.rm_invariant.specs.apps.View.{is_ask, View, set_if, changed_if, counts, one_if, view}
 use Rattle.rm_invariant.specs.apps.Invariant.{ActiveInvariant, RowInvariant, StateInvariant, is_active, AttemptsInvariant}
 use Rattle.rm_invariant.proofs.apps.Own.{active_row}
@@ -14,7 +15,7 @@ use Rattle.rm_invariant.proofs.apps.Effects as views
 use Rattle.rm_invariant.specs.masters.Invariant.{ContainersInvariant, ContainerInvariant, RemovalInvariant}
 use Rattle.rm_invariant.specs.masters.View.{ContainerView, container_view}
 use Rattle.rm_invariant.proofs.masters.Ends.{Alive}
-use Rattle.rm_invariant.proofs.masters.Saying.{active_of, active_unended, goes_on}
+use Rattle.rm_invariant.proofs.masters.Saying.{active_of, goes_on}
 use Rattle.rm_invariant.proofs.masters.Tests.{any_end}
 use Rattle.rm_invariant.proofs.masters.Crossing.{counted_marks, entering_marks, granting_marks, granting_says}
 use Rattle.rm_invariant.proofs.masters.Effects.{main_posted}
@@ -57,7 +58,7 @@ goes_by s (inr e) = rw e refl
 
 -- A container enters the book with a row of its own, while these asks are left. Its attempt is the current one of its application.
 module _ (settings : Settings) (h : History) (t : Tables) (says : AttemptsInvariant settings h t) (all : ContainersInvariant h t) (entry : Row) (asks : List AskOf) (granted : List ContainerId)
-    (row : AppRow) (found : row_of t.rows entry.id.attempt.app ≡ Some row) (current : Current) (is : row.current ≡ Some current) (n : (current.number == entry.id.attempt.number) ≡ true) where
+    (row : AppRow) (found : row_of t.rows entry.id.attempt.app ≡ Some row) (current : Current) (is : row.current ≡ Some current) (n : (current.number == entry.id.attempt.number) ≡ true) (clean : is_stale_in t.tree.apps entry.id ≡ false) where
   -- the history after it
   abbrev pub entered : History
   entered = record h { granted = granted; asks = asks; book = h.book ++ entry ∷ [] }
@@ -79,6 +80,14 @@ module _ (settings : Settings) (h : History) (t : Tables) (says : AttemptsInvari
 
   apart : (c : ContainerId) → is_app entry.id.attempt.app c.attempt.app ≡ false → is_container entry.id c ≡ false
   apart c other = rw other refl
+
+  -- it isn't stale
+  enters_clean : (c : ContainerId) → RemovalInvariant c (container_view h t c) → RemovalInvariant c (record (container_view h t c) { living = set_if (is_container entry.id c) (container_view h t c).living })
+  enters_clean c over = by (is_container entry.id c) refl
+    where
+      by : (b : Bool) → is_container entry.id c ≡ b → RemovalInvariant c (record (container_view h t c) { living = set_if b (container_view h t c).living })
+      by false e = over
+      by true e = λ s l. let fresh = subst (λ (d : ContainerId). is_stale_in t.tree.apps d ≡ false) (same_container entry.id c e) clean in absurd (cc)
 
   -- it is its master's, for which the attempt waits
   module _ (st : current.state ≡ attempts.Scheduled) (asked : (q : AttemptId) → count_by (is_ask q) h.asks ≡ one_if (is_attempt entry.id.attempt q) (count_by (is_ask q) asks)) (fresh : has_container h.endings.left entry.id ≡ false) where
@@ -129,8 +138,8 @@ module _ (settings : Settings) (h : History) (t : Tables) (says : AttemptsInvari
         (λ c other. marks_now c ∙ rw (apart c other) refl)
         (λ c same marks_say.
         subst (λ (v : ContainerView). ContainerInvariant c (Some (change row)) v) (sym (marks_now c))
-        (granting_marks c row current (container_view h t c) is st entry.id (is_container entry.id c) (current.number == c.attempt.number) refl refl (active_unended row.state goes) (λ e. left_none c e) (here_number c) marks_say))
-        (λ c same over. subst (λ (v : ContainerView). RemovalInvariant c v) (sym (marks_now c)) over) all
+        (granting_marks c row current (container_view h t c) is st entry.id (is_container entry.id c) (current.number == c.attempt.number) refl refl (λ e. left_none c e) (here_number c) marks_say))
+        (λ c same over. subst (λ (v : ContainerView). RemovalInvariant c v) (sym (marks_now c)) (enters_clean c over)) all
       where
         left_none : (c : ContainerId) → is_container entry.id c ≡ true → has_container h.endings.left c ≡ false
         left_none c e = let same = same_container entry.id c e in rw (← same) fresh
@@ -156,32 +165,11 @@ module _ (settings : Settings) (h : History) (t : Tables) (says : AttemptsInvari
     living_here : (c : ContainerId) → is_app entry.id.attempt.app c.attempt.app ≡ true → ContainerInvariant c (Some row) (container_view h t c) → ContainerInvariant c (Some row) (container_view entered t c)
     living_here c same old =
         subst (λ (v : ContainerView). ContainerInvariant c (Some row) v) (sym (taken_mark c))
-        (entering_marks c row current (container_view h t c) is (alive_or_ending current.state st) (is_container entry.id c) (here_number c) (λ e. new_here c e) (active_unended row.state goes_too) old)
+        (entering_marks c row current (container_view h t c) is (alive_or_ending current.state st) (is_container entry.id c) (here_number c) (λ e. new_here c e) old)
       where
         new_here : (c : ContainerId) → is_container entry.id c ≡ true → ((is_living h.book c ≡ false) × (has_container h.endings.left c ≡ false)) ⊎ (attempt_was_first (abstract_scene h t) c.attempt ≡ true)
         new_here c e =
             subst (λ (d : ContainerId). ((is_living h.book d ≡ false) × (has_container h.endings.left d ≡ false)) ⊎ (attempt_was_first (abstract_scene h t) d.attempt ≡ true)) (same_container entry.id c e) fresh
-
-    -- it is taken of a node's report
-    pub taken_says : AttemptsInvariant settings entered t
-    taken_says q = by (is_app entry.id.attempt.app q.app) refl
-      where
-        by : (b : Bool) → is_app entry.id.attempt.app q.app ≡ b → RowInvariant settings q (row_of t.rows q.app) (view entered t q)
-        by true same =
-            let here : row_of t.rows q.app ≡ Some row = rw (← same_app entry.id.attempt.app q.app same) found in
-            let old : RowInvariant settings q (Some row) (view h t q) = rw here at (says q) in
-            rw here (held_here q same old)
-        by false other = subst (λ (v : View). RowInvariant settings q (row_of t.rows q.app) v) (sym (taken_view q ∙ rw other refl)) (says q)
-
-    pub taken_marks : ContainersInvariant entered t
-    taken_marks c = (by (is_app entry.id.attempt.app c.attempt.app) refl, subst (λ (v : ContainerView). RemovalInvariant c v) (sym (taken_mark c)) (all c).1)
-      where
-        by : (b : Bool) → is_app entry.id.attempt.app c.attempt.app ≡ b → ContainerInvariant c (row_of t.rows c.attempt.app) (container_view entered t c)
-        by true same =
-            let here : row_of t.rows c.attempt.app ≡ Some row = rw (← same_app entry.id.attempt.app c.attempt.app same) found in
-            let old : ContainerInvariant c (Some row) (container_view h t c) = rw here at (all c).0 in
-            rw here (living_here c same old)
-        by false other = subst (λ (v : ContainerView). ContainerInvariant c (row_of t.rows c.attempt.app) v) (sym (taken_mark c ∙ rw (apart c other) refl)) (all c).0
 
     -- or it is granted
     abbrev counting : AppRow → AppRow
@@ -205,4 +193,4 @@ module _ (settings : Settings) (h : History) (t : Tables) (says : AttemptsInvari
         marks_changed h entered t granted_more entry.id.attempt.app counting (Some row) (λ q. row_changed counting entry.id.attempt.app q t.rows) found
         (λ c other. taken_mark c ∙ rw (apart c other) refl)
         (λ c same marks_say. counted_marks c row current (container_view entered t c) is (alive_or_ending current.state st) entry.id (living_here c same marks_say))
-        (λ c same over. subst (λ (v : ContainerView). RemovalInvariant c v) (sym (taken_mark c)) over) all
+        (λ c same over. subst (λ (v : ContainerView). RemovalInvariant c v) (sym (taken_mark c)) (enters_clean c over)) all

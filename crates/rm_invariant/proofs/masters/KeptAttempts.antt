@@ -1,5 +1,5 @@
 -- An Attempt once it is kept, as a whole step: it lives, and its master is to be launched.
-use Rattle.rm_invariant.proofs.Common.{◌≡◌, ◌⊎◌, inl, inr, ℕ, ◌+◌, ◌||◌, suc, List, [], ◌∷◌, ◌++◌, Bool, true, false, Option, None, Some, find, length, drop, refl, sym, ◌∙◌, ap, subst, arith, nat_tests, AppId, AttemptId, ContainerId, Op, AppRecord, Settings, is_app, is_attempt, is_container, record_of, same_app, app_itself, container_itself, attempts_in, Tables, changed, is_master_of, kept, row_of, History}
+use Rattle.rm_invariant.proofs.Common.{◌≡◌, ℕ, ◌+◌, ◌||◌, suc, List, [], ◌∷◌, ◌++◌, Bool, true, false, Option, None, Some, find, length, drop, refl, sym, ◌∙◌, ap, subst, arith, nat_tests, AppId, AttemptId, ContainerId, Op, AppRecord, Settings, is_app, is_attempt, is_container, record_of, same_app, app_itself, container_itself, attempts_in, Tables, changed, is_master_of, kept, row_of, History}
 use Rattle.std.proofs.Common.{◌==◌, option_map, length-append}
 use Rattle.rm_types.specs.declared.entries.Entry.TheVariants.{Kept as KeptEntry}
 use Rattle.rm_types.specs.declared.operations.Op.TheVariants as ops
@@ -16,7 +16,7 @@ use Rattle.rm_invariant.proofs.apps.Effects.{main_end}
 use Rattle.rm_invariant.proofs.apps.Saving.{recorded_more}
 use Rattle.rm_invariant.proofs.apps.Effects as views
 use Rattle.rm_invariant.proofs.apps.Recorded.{record_changed}
-use Rattle.rm_invariant.specs.masters.Invariant.{has_end_in, ContainersInvariant, ContainerByNumber, ContainerByState, ContainerInvariant, own_of}
+use Rattle.rm_invariant.specs.masters.Invariant.{ContainersInvariant, ContainerByNumber, ContainerByState, ContainerInvariant, own_of}
 use Rattle.rm_invariant.specs.masters.Sound.{RecordsAreSound, IsSoundRecord}
 use Rattle.rm_invariant.specs.masters.Preserves.{PreservesContainers}
 use Rattle.rm_invariant.specs.masters.View.{ContainerView, is_expiry, is_finish, is_granting, is_losing, container_view_main, container_view, container_view_op}
@@ -27,7 +27,7 @@ use Rattle.rm_invariant.proofs.masters.Stepping.{joins_between}
 use Rattle.rm_invariant.proofs.masters.Effects.{op_taken}
 use Rattle.rm_invariant.proofs.masters.Marking.{saved_marks}
 use Rattle.rm_invariant.proofs.masters.Tests.{or_false}
-use Rattle.rm_invariant.proofs.masters.Over.{over_with_new}
+use Rattle.rm_invariant.proofs.masters.Stale.{stale_with_new}
 
 -- the new record names the container that the operation does
 new_master : (id : AppId) (one : AppRecord) (n : ℕ) (c : ContainerId) (node : List ℕ) → IsSoundRecord id (with_new (record { app = id; number = n }) c node one) → n ≡ length (one.attempts ++ new_attempt (record { app = id; number = n }) c node ∷ [])
@@ -81,7 +81,7 @@ module _ (settings : Settings) (h : History) (t : Tables) (k : AppsInvariant set
       let at_current = awaits.current_is in
       let st = awaits.state in
       let num = here_number in
-      let x : ContainerByNumber c (awaits.current.number == c.attempt.number) awaits.current (container_view_op c issued (container_view h left c)) = rw at_current at now.1.0 in
+      let x : ContainerByNumber c (awaits.current.number == c.attempt.number) awaits.current (container_view_op c issued (container_view h left c)) = rw at_current at now.1 in
       let y : ContainerByState c awaits.current.state awaits.current.lost (is_master_of c awaits.current.master) (container_view_op c issued (container_view h left c)) = rw num at x in
       let z : ContainerByState c attempts.Saving awaits.current.lost (is_master_of c awaits.current.master) (container_view_op c issued (container_view h left c)) = rw st at y in
       mine_by (is_master_of c awaits.current.master) refl z
@@ -141,9 +141,4 @@ module _ (settings : Settings) (h : History) (t : Tables) (k : AppsInvariant set
       let longer : length (attempts_in (option_map (with_new id c node) (record_of t.tree.apps d.attempt.app))) ≡ length (attempts_in (record_of t.tree.apps d.attempt.app)) + 1 = rw (← here) saved.longer in
       rw same (subst (λ (b : Bool). ContainerInvariant d (Some (changed (of_app.OfAttempt of_attempt.Keep) awaits.one)) (record (container_view h left d) { found = option_map (with_new id c node) (record_of t.tree.apps d.attempt.app); launches = one_if b (container_view h left d).launches })) (ap (λ n. n == d.attempt.number) number)
       (saved_marks d awaits.one awaits.current (container_view h left d) awaits.current_is (option_map (with_new id c node) (record_of t.tree.apps d.attempt.app)) awaits.state (is_container c d) (awaits.current.number == d.attempt.number) refl (is_master_of d awaits.current.master) refl (own_new d same) longer says)))
-      (λ d same says n. by d same (says n))
-    where
-      by : (d : ContainerId) → is_app id.app d.attempt.app ≡ true → ((container_view h left d).retired ≡ true) ⊎ (has_end_in d.attempt (container_view h left d).found ≡ true)
-          → ((container_view h left d).retired ≡ true) ⊎ (has_end_in d.attempt (changed_if (is_app id.app d.attempt.app) (with_new id c node) (container_view h left d).found) ≡ true)
-      by d same (inl r) = inl r
-      by d same (inr e) = inr (rw same (over_with_new d.attempt id c node (container_view h left d).found e))
+      (λ d same says. rw same (λ x l. says (stale_with_new d (new_attempt id c node) refl (container_view h left d).found x) l))

@@ -1,16 +1,23 @@
 -- Release, NodeDone and NodeLost, each as a whole step: the containers that they end leave the book, if there are any.
-use Rattle.rm_invariant.proofs.Common.{◌≡◌, ℕ, ◌&&◌, not, List, [], ◌∷◌, Bool, true, false, filter, find, map, refl, sym, ◌∙◌, ap, subst, list_any, bytes_eq, IsPermutation-sym, BookRow, AttemptId, ContainerId, Settings, is_attempt, is_container, Ascend, and_first, same_container, ids_on, is_living, lives_on, once, has_container, Allowed, Row, has_row, is_of, SchedEvent, Tables, ended_by, is_masters_in, EndsByEvent, is_on, is_released, sched_step, sched_worked, PlainRow, bare_row, plain_row, SameRows, History, live_state}
+use Rattle.rm_invariant.proofs.Common.{◌≡◌, ℕ, ◌&&◌, not, List, [], ◌∷◌, Bool, true, false, filter, find, map, refl, sym, ◌∙◌, ap, subst, list_any, bytes_eq, IsPermutation-sym, BookRow, AttemptId, ContainerId, Settings, is_container, Ascend, and_first, same_container, ids_on, is_living, lives_on, once, has_container, Allowed, Row, has_row, is_of, SchedEvent, Tables, ended_by, is_masters_in, EndsByEvent, is_on, is_released, sched_step, sched_worked, PlainRow, bare_row, plain_row, SameRows, History, live_state, ◌⊎◌, inl, inr, ◌||◌, ◌<◌, length, zero, suc, get_or, arith, Scene, scene, attempt_was_first, abstract_life, Contains}
+use Rattle.std.specs.Prelude.{unwrap_or, nat_lt}
 use Rattle.rm_types.specs.declared.containers.Cause.TheVariants as causes
-use Rattle.rm_book.specs.Books.{book_row as book_row_of}
-use Rattle.rm_tables.specs.SchedEvents.{done_by, release_step}
+use Rattle.rm_model.specs.Ending.{done_on}
+use Rattle.rm_model.specs.Containers.{is_astray, is_missing}
+use Rattle.rm_model.specs.Attempts.{is_wanted}
+use Rattle.rm_model.specs.Nodes.{beat_at}
+use Rattle.rm_model.specs.State.{NodeState}
+use Rattle.rm_tables.specs.SchedEvents.{done_by, release_step, ends_as_done}
 use Rattle.rm_tables.specs.declared.events.SchedEvent.TheVariants as scheds
+use Rattle.rm_tables.specs.Missing.{is_at_disposal_in}
 use Rattle.rm_invariant.specs.Step.{AppsInvariant}
 use Rattle.rm_invariant.specs.masters.Invariant.{ContainersInvariant}
 use Rattle.rm_invariant.specs.masters.Sound.{RecordsAreSound}
 use Rattle.rm_invariant.specs.masters.Preserves.{PreservesContainersTo}
-use Rattle.rm_invariant.proofs.masters.Removed.{leaving_joins}
+use Rattle.rm_invariant.proofs.masters.Removed.{leaving_joins, Departs}
 use Rattle.rm_invariant.proofs.nodes.Ascending.{permuted_has}
 use Rattle.rm_invariant.proofs.nodes.Lists.{lives_is}
+use Rattle.rm_invariant.proofs.masters.Tests.{and_right}
 
 -- of some ids that pass a test each is one of the ids, and passes
 pub of_passing : (p : ContainerId → Bool) (ids : List ContainerId) (c : ContainerId) → has_container (filter p ids) c ≡ true → (has_container ids c ≡ true) × (p c ≡ true)
@@ -88,6 +95,41 @@ lives_there (row ∷ rows) name c e = by (is_container row.id c) refl (lives_the
     by true f h = rw f refl
     by false f h = rw f (h (let x = rw f at e in x))
 
+-- what ends of a node's done list is astray or in the book on the node: an astray one's attempt was kept when the life began
+one_departs : (settings : Settings) (m : Scene) (node : NodeState) (c : ContainerId) → has_container (done_on settings m node) c ≡ true → (is_living m.life.book c ≡ true) ⊎ (attempt_was_first m c.attempt ≡ true)
+one_departs settings m node c e = by (is_astray settings m c) refl
+  where
+    passes : (is_astray settings m c || lives_on m.life.book node.name c) ≡ true
+    passes =
+        let ends : ContainerId → Bool = λ id. is_astray settings m id || lives_on m.life.book node.name id in
+        let listed : List ContainerId = unwrap_or (beat_at node.undone) [] in
+        (of_passing ends listed c (of_once (filter ends listed) c e)).1
+
+    first : (settings.recover_ended_containers && is_missing m c) ≡ true → attempt_was_first m c.attempt ≡ true
+    first astray =
+        let missing = and_right settings.recover_ended_containers (is_missing m c) astray in
+        let not_left = and_right (not (is_living m.life.book c)) _ missing in
+        let former = and_right (not (has_container m.life.endings.left c)) _ not_left in
+        let wanted = and_right (nat_lt c.epoch m.life.epoch) (attempt_was_first m c.attempt && is_wanted m c) former in
+        and_first (attempt_was_first m c.attempt) (is_wanted m c) wanted
+
+    by : (b : Bool) → is_astray settings m c ≡ b → (is_living m.life.book c ≡ true) ⊎ (attempt_was_first m c.attempt ≡ true)
+    by true f = inr (first f)
+    by false f = inl (lives_there m.life.book node.name c (rw f at passes))
+
+listed_departs : (settings : Settings) (m : Scene) (nodes : List NodeState) (list : List ContainerId) (k : ℕ) → k < length (map (done_on settings m) nodes) → get_or (map (done_on settings m) nodes) k list ≡ list
+    → (c : ContainerId) → has_container list c ≡ true → (is_living m.life.book c ≡ true) ⊎ (attempt_was_first m c.attempt ≡ true)
+listed_departs settings m [] list k lt is c e = absurd (omega (arith, lt))
+listed_departs settings m (node ∷ nodes) list zero lt is c e = one_departs settings m node c (rw is e)
+listed_departs settings m (node ∷ nodes) list (suc k) lt is c e = listed_departs settings m nodes list k (omega (arith, lt)) is c e
+
+pub done_departs : (settings : Settings) (h : History) (t : Tables) (list : List ContainerId) → Allowed settings (live_state h t) (ended_by causes.Done list t).0 → (c : ContainerId) → has_container list c ≡ true → Departs h t c
+done_departs settings h t [] allowed c e = cc
+done_departs settings h t (one ∷ more) allowed c e =
+    let m : Scene = scene (live_state h t) (abstract_life h t) in
+    let ends : Contains (map (done_on settings m) m.life.nodes) (one ∷ more) = allowed.ends in
+    listed_departs settings m m.life.nodes (one ∷ more) ends.0 ends.1 ends.2 c e
+
 module _ (settings : Settings) (h : History) (t : Tables) (k : AppsInvariant settings h t) (all : ContainersInvariant h t) (each : RecordsAreSound t.tree.apps) (agree : SameRows t.book.rows h.book) where
   -- Release
   pub released_joins : (attempt : AttemptId) (released : List ContainerId) (rest : List SchedEvent) → t.sched ≡ scheds.Release attempt released ∷ rest → (list : List ContainerId)
@@ -96,18 +138,17 @@ module _ (settings : Settings) (h : History) (t : Tables) (k : AppsInvariant set
       leaving_joins settings h t k all each (scheds.Release attempt released) rest front (λ q v. refl) causes.Released (once (filter (is_released attempt t) released))
       (λ c e.
       let passes = (of_passing (is_released attempt t) released c (of_once (filter (is_released attempt t) released) c e)).1 in
-      sym (same_living c t.book.rows h.book agree) ∙ and_first (has_row t.book c) (is_attempt c.attempt attempt && not (is_masters_in t.tree.apps c)) passes)
-      (λ c x l. cc) lawful
+      inl (sym (same_living c t.book.rows h.book agree) ∙ and_first (has_row t.book c) (is_at_disposal_in t.tree.apps attempt c && not (is_masters_in t.tree.apps c)) passes))
+      (λ c x l s. cc) lawful
 
   -- NodeDone
   pub node_done_joins : (name : List ℕ) (done : List ContainerId) (rest : List SchedEvent) → t.sched ≡ scheds.NodeDone name done ∷ rest → (list : List ContainerId)
       → Allowed settings (live_state h t) (done_by name done t).0 → PreservesContainersTo settings h t (sched_worked (sched_step (scheds.NodeDone name done) list t))
-  node_done_joins name done rest front list lawful =
-      leaving_joins settings h t k all each (scheds.NodeDone name done) rest front (λ q v. refl) causes.Done (once (filter (λ id. is_on name (book_row_of t.book id)) done))
-      (λ c e.
-      let passes = (of_passing (λ id. is_on name (book_row_of t.book id)) done c (of_once (filter (λ id. is_on name (book_row_of t.book id)) done) c e)).1 in
-      sym (same_living c t.book.rows h.book agree) ∙ found_row t.book.rows c name passes)
-      (λ c x l. cc) lawful
+  node_done_joins name done rest front list lawful = by (once (filter (ends_as_done name t) done)) lawful
+    where
+      by : (ended : List ContainerId) → Allowed settings (live_state h t) (ended_by causes.Done ended t).0 → PreservesContainersTo settings h t (sched_worked (ended_by causes.Done ended t))
+      by ended allowed =
+          leaving_joins settings h t k all each (scheds.NodeDone name done) rest front (λ q v. refl) causes.Done ended (λ c e. done_departs settings h t ended allowed c e) (λ c x l s. cc) allowed
 
   -- NodeLost
   pub node_lost_joins : (name : List ℕ) (rest : List SchedEvent) → t.sched ≡ scheds.NodeLost name ∷ rest → (list : List ContainerId) → EndsByEvent (scheds.NodeLost name) t list
@@ -116,5 +157,5 @@ module _ (settings : Settings) (h : History) (t : Tables) (k : AppsInvariant set
       let same = same_ids_on name t.book.rows h.book agree in
       let told : Ascend (ids_on h.book name) list = subst (λ (ids : List ContainerId). Ascend ids list) same ends in
       leaving_joins settings h t k all each (scheds.NodeLost name) rest front (λ q v. refl) causes.Node list
-      (λ c e. lives_there h.book name c (lives_is h.book name c ∙ permuted_has list (ids_on h.book name) c (IsPermutation-sym (ids_on h.book name) list told.same) e))
-      (λ c x l. cc) lawful
+      (λ c e. inl (lives_there h.book name c (lives_is h.book name c ∙ permuted_has list (ids_on h.book name) c (IsPermutation-sym (ids_on h.book name) list told.same) e)))
+      (λ c x l s. cc) lawful

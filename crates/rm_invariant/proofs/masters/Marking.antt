@@ -30,8 +30,7 @@ module _ (c : ContainerId) (row : AppRow) (current : Current) (v : ContainerView
       → ContainerInvariant c (Some row) (record v { grants = one_if granting v.grants })
       → ContainerInvariant c (Some (changed (of_app.OfAttempt of_attempt.Issue) row)) (record v { savings = one_if saving v.savings })
   granted_marks st granting b n m o there saving not_mine not_here good =
-      let says : ContainerByNumber c (current.number == c.attempt.number) current (record v { grants = one_if granting v.grants }) = rw is at good.1.0 in
-      let final = good.1.1 in
+      let says : ContainerByNumber c (current.number == c.attempt.number) current (record v { grants = one_if granting v.grants }) = rw is at good.1 in
       let lost = good.0 in
       rw is (grind (arith, nat_tests))
 
@@ -41,8 +40,7 @@ module _ (c : ContainerId) (row : AppRow) (current : Current) (v : ContainerView
       → ContainerInvariant c (Some row) (record v { grants = one_if granting v.grants })
       → ContainerInvariant c (Some (changed (of_app.OfAttempt of_attempt.Requeue) row)) v
   requeued_marks st granting b n m o gone is_it good =
-      let says : ContainerByNumber c (current.number == c.attempt.number) current (record v { grants = one_if granting v.grants }) = rw is at good.1.0 in
-      let final = good.1.1 in
+      let says : ContainerByNumber c (current.number == c.attempt.number) current (record v { grants = one_if granting v.grants }) = rw is at good.1 in
       let lost = good.0 in
       rw is (grind (arith, nat_tests))
 
@@ -51,8 +49,7 @@ module _ (c : ContainerId) (row : AppRow) (current : Current) (v : ContainerView
       → ContainerInvariant c (Some row) (record v { launches = one_if launching v.launches; losses = one_if losing v.losses; expiries = one_if expiring v.expiries; finishes = one_if finished v.finishes })
       → ContainerInvariant c (Some (changed (of_app.OfAttempt (of_attempt.End how)) row)) v
   ending_marks how state s e b n launching losing expiring finished good =
-      let says : ContainerByNumber c (current.number == c.attempt.number) current (record v { launches = one_if launching v.launches; losses = one_if losing v.losses; expiries = one_if expiring v.expiries; finishes = one_if finished v.finishes }) = rw is at good.1.0 in
-      let final = good.1.1 in
+      let says : ContainerByNumber c (current.number == c.attempt.number) current (record v { launches = one_if launching v.launches; losses = one_if losing v.losses; expiries = one_if expiring v.expiries; finishes = one_if finished v.finishes }) = rw is at good.1 in
       let lost = good.0 in
       rw is (grind (arith, nat_tests))
 
@@ -62,10 +59,9 @@ module _ (c : ContainerId) (row : AppRow) (current : Current) (v : ContainerView
       → ContainerInvariant c (Some row) (record v { launches = one_if b v.launches })
       → ContainerInvariant c (Some row) (record v { ordered = set_if m v.ordered })
   ordering_marks state s e b n m o unlost apart good =
-      let says : ContainerByNumber c (current.number == c.attempt.number) current (record v { launches = one_if b v.launches }) = rw is at good.1.0 in
-      let final = good.1.1 in
+      let says : ContainerByNumber c (current.number == c.attempt.number) current (record v { launches = one_if b v.launches }) = rw is at good.1 in
       let lost = good.0 in
-      (lost, (rw is (grind (arith, nat_tests)), final))
+      (lost, rw is (grind (arith, nat_tests)))
 
   -- or nothing is to be done, since its master left the book
   pub unordered_marks : (state : AttemptState) → current.state ≡ state → (state ≡ attempts.Live) ⊎ (state ≡ attempts.Registered) ⊎ (state ≡ attempts.Finishing) → (b : Bool) → (current.number == c.attempt.number) ≡ b → (m : Bool) → is_master_of c current.master ≡ m
@@ -73,10 +69,9 @@ module _ (c : ContainerId) (row : AppRow) (current : Current) (v : ContainerView
       → ContainerInvariant c (Some row) (record v { launches = one_if b v.launches })
       → ContainerInvariant c (Some row) v
   unordered_marks state s e b n m o unlost gone good =
-      let says : ContainerByNumber c (current.number == c.attempt.number) current (record v { launches = one_if b v.launches }) = rw is at good.1.0 in
-      let final = good.1.1 in
+      let says : ContainerByNumber c (current.number == c.attempt.number) current (record v { launches = one_if b v.launches }) = rw is at good.1 in
       let lost = good.0 in
-      (lost, (rw is (by b n gone says), final))
+      (lost, rw is (by b n gone says))
     where
       alive : (s : AttemptState) → (s ≡ attempts.Live) ⊎ (s ≡ attempts.Registered) ⊎ (s ≡ attempts.Finishing) → (l : Bool) → l ≡ false → (m ≡ true → v.living ≡ false) → ContainerByState c s l m (record v { launches = suc v.launches }) → ContainerByState c s l m v
       alive s e l unlost gone says = alive_unordered c v s e l m unlost gone says
@@ -90,8 +85,7 @@ module _ (c : ContainerId) (row : AppRow) (current : Current) (v : ContainerView
       → ContainerInvariant c (Some row) (record v { losses = one_if losing v.losses })
       → ContainerInvariant c (Some (changed (of_app.OfAttempt of_attempt.Lose) row)) v
   losing_marks st losing b n m o is_it good =
-      let says : ContainerByNumber c (current.number == c.attempt.number) current (record v { losses = one_if losing v.losses }) = rw is at good.1.0 in
-      let final = good.1.1 in
+      let says : ContainerByNumber c (current.number == c.attempt.number) current (record v { losses = one_if losing v.losses }) = rw is at good.1 in
       let lost = good.0 in
       rw is (grind (arith, nat_tests))
 
@@ -119,21 +113,21 @@ module _ (c : ContainerId) (v : ContainerView) (granting losing launching expiri
   alive_by false false lost m may says =
       (says.0, says.1, says.2, says.3, says.4, says.5, (λ f. let e = may.3 f in let n = says.6 f in rw e at n), λ o. let e = may.0 o in let n = says.7 o in rw e at n)
 
+  untouched_goes : Untouched with_events → Untouched v
+  untouched_goes says = grind arith
+
   own_goes : (s : AttemptState) (lost m : Bool) → MayGo s m granting losing launching expiring finished v.finishing → ContainerByState c s lost m with_events → ContainerByState c s lost m v
   own_goes attempts.Live lost m may says = alive_by launching expiring lost m may says
   own_goes attempts.Registered lost m may says = alive_by launching expiring lost m may says
   own_goes attempts.Finishing lost m may says = alive_by launching expiring lost m may says
   own_goes attempts.Ending lost m may says = tt
-  own_goes attempts.Ended lost m may says = says
+  own_goes attempts.Ended lost m may says = λ l. untouched_goes (says l)
   own_goes attempts.Dropped lost m may says = tt
   own_goes _ lost m may says = grind (arith, nat_tests)
 
-  untouched_goes : Untouched with_events → Untouched v
-  untouched_goes says = grind arith
-
   number_goes : (b : Bool) (current : Current) → (b ≡ true → MayGo current.state (is_master_of c current.master) granting losing launching expiring finished v.finishing) → ContainerByNumber c b current with_events → ContainerByNumber c b current v
   number_goes true current may says = own_goes current.state current.lost (is_master_of c current.master) (may refl) says
-  number_goes false current may says = (λ n. untouched_goes (says.0 n), says.1)
+  number_goes false current may says = λ n. untouched_goes (says n)
 
   current_goes : (o : Option Current) → ((current : Current) → o ≡ Some current → (current.number == c.attempt.number) ≡ true → MayGo current.state (is_master_of c current.master) granting losing launching expiring finished v.finishing) → ContainerByCurrent c o with_events → ContainerByCurrent c o v
   current_goes None may says = untouched_goes says
@@ -145,8 +139,8 @@ module _ (c : ContainerId) (v : ContainerView) (granting losing launching expiri
   -- events that have nothing to do may go, for every row
   pub event_goes : (row : Option AppRow) → ((one : AppRow) (current : Current) → row ≡ Some one → one.current ≡ Some current → (current.number == c.attempt.number) ≡ true → MayGo current.state (is_master_of c current.master) granting losing launching expiring finished v.finishing)
       → ContainerInvariant c row with_events → ContainerInvariant c row v
-  event_goes None may says = (loss_goes losing v.losses v.left says.0, ((λ r. untouched_goes (says.1.0 r)), says.1.1))
-  event_goes (Some row) may says = (loss_goes losing v.losses v.left says.0, (current_goes row.current (λ current. may row current refl) says.1.0, says.1.1))
+  event_goes None may says = (loss_goes losing v.losses v.left says.0, λ r. untouched_goes (says.1 r))
+  event_goes (Some row) may says = (loss_goes losing v.losses v.left says.0, current_goes row.current (λ current. may row current refl) says.1)
 
 -- an Attempt is kept: it lives
 pub saved_marks : (c : ContainerId) (row : AppRow) (current : Current) (v : ContainerView) (is : row.current ≡ Some current) (new : Option AppRecord) → current.state ≡ attempts.Saving → (s b : Bool) → (current.number == c.attempt.number) ≡ b → (m : Bool) → is_master_of c current.master ≡ m
@@ -154,7 +148,6 @@ pub saved_marks : (c : ContainerId) (row : AppRow) (current : Current) (v : Cont
     → ContainerInvariant c (Some row) (record v { savings = one_if s v.savings })
     → ContainerInvariant c (Some (changed (of_app.OfAttempt of_attempt.Keep) row)) (record v { found = new; launches = one_if b v.launches })
 saved_marks c row current v is new st s b n m o own longer good =
-    let says : ContainerByNumber c (current.number == c.attempt.number) current (record v { savings = one_if s v.savings }) = rw is at good.1.0 in
-    let final = good.1.1 in
+    let says : ContainerByNumber c (current.number == c.attempt.number) current (record v { savings = one_if s v.savings }) = rw is at good.1 in
     let lost = good.0 in
     rw is (grind (arith, nat_tests))

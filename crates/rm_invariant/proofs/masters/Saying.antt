@@ -1,24 +1,12 @@
 -- What the events of masters do to the facts of an application and its attempt of a number.
-use Rattle.rm_invariant.proofs.Common.{◌≡◌, ◌⊎◌, ℕ, suc, Bool, true, false, Option, Some, refl, arith, nat_tests, AttemptId, How, Settings, AppState, next_app_state, AttemptState, AppRow, Current, changed}
+use Rattle.rm_invariant.proofs.Common.{◌≡◌, ◌⊎◌, ℕ, suc, Bool, true, false, Option, Some, refl, arith, nat_tests, AttemptId, How, Settings, AppState, AttemptState, AppRow, Current, changed}
 use Rattle.std.proofs.Common.{◌==◌}
-use Rattle.rm_states.specs.declared.app.states.AppEvent.{AppEvent}
-use Rattle.rm_states.specs.declared.app.states.AppEvent.TheVariants as app_events
 use Rattle.rm_states.specs.declared.attempt.states.AttemptState.TheVariants as attempts
 use Rattle.rm_tables.specs.declared.changes.RowChange.TheVariants as of_app
 use Rattle.rm_tables.specs.declared.changes.AttemptChange.TheVariants as of_attempt
 use Rattle.rm_invariant.specs.apps.Invariant.{ActiveInvariant, RowInvariant, StateInvariant, is_active}
 use Rattle.rm_invariant.specs.apps.View.{View, one_if}
 use Rattle.rm_invariant.proofs.apps.Own.{active_row}
-use Rattle.rm_invariant.specs.masters.Invariant.{is_final}
-
--- the word that an end is kept
-abbrev pub is_end_kept : AppEvent → Bool
-is_end_kept (app_events.EndKept how) = true
-is_end_kept _ = false
-
--- no other event leads to where an end is kept
-pub was_final : (event : AppEvent) → is_end_kept event ≡ false → (s : AppState) → is_final (next_app_state s event) ≡ true → is_final s ≡ true
-was_final event other s f = grind arith
 
 -- an attempt that is on its way or lives is of an active application
 abbrev pub goes_on : AttemptState → Bool
@@ -103,7 +91,3 @@ module _ (settings : Settings) (q : AttemptId) (row : AppRow) (current : Current
       let active = active_row settings q row v a good in
       let says : ActiveInvariant settings q (Some current) row.wish v = rw is at active.current in
       rw is (grind (arith, nat_tests))
-
--- the end of an active application isn't kept
-pub active_unended : (s : AppState) → is_active s ≡ true → is_final s ≡ false
-active_unended s a = grind arith

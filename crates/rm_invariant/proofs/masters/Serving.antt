@@ -1,11 +1,10 @@
 -- The clock and a master are served, of an attempt that lives, each as a whole step: its master's lease ran out; its master finishes.
-use Rattle.rm_invariant.proofs.Common.{◌≡◌, inl, inr, ℕ, ◌||◌, suc, List, [], ◌∷◌, ◌++◌, Bool, true, false, Option, Some, refl, ap, arith, nat_tests, Entry, Served, AppId, AttemptId, ContainerId, ExpireMaster, Finish, Register, Settings, is_app, is_attempt, records, has_registered, is_registered, after, reply_to, AllowedIn, AttemptState, AppRow, Current, Dialogue, Tables, changed, is_master_of, row_of, with_row, History, abstract_scene, live_state}
+use Rattle.rm_invariant.proofs.Common.{◌≡◌, inl, inr, ℕ, ◌||◌, suc, List, [], ◌∷◌, ◌++◌, Bool, true, false, Option, Some, refl, ap, arith, nat_tests, Entry, Served, AppId, AttemptId, ContainerId, ExpireMaster, Finish, Register, Settings, is_app, is_attempt, records, has_registered, is_registered, after, reply_to, AllowedIn, AttemptState, AppRow, Current, Dialogue, Tables, changed, is_master_of, row_of, with_row, History, abstract_scene, live_state, Reply, Row, is_container, list_any}
 use Rattle.std.proofs.Common.{◌==◌}
 use Rattle.rm_types.specs.declared.messages.Message.TheVariants as messages
 use Rattle.rm_types.specs.declared.messages.Sender.TheVariants as senders
 use Rattle.rm_types.specs.declared.replies.Reply.TheVariants as replies
 use Rattle.rm_model.specs.MasterReplies.{with_master}
-use Rattle.rm_states.specs.declared.app.states.AppEvent.TheVariants as app_events
 use Rattle.rm_states.specs.declared.attempt.states.AttemptEvent.TheVariants as attempt_events
 use Rattle.rm_states.specs.attempt.Table.{next_attempt_state as next_attempt_state}
 use Rattle.rm_tables.specs.declared.events.MainEvent.TheVariants as mains
@@ -18,11 +17,11 @@ use Rattle.rm_invariant.proofs.apps.Counts.{at_end}
 use Rattle.rm_invariant.proofs.apps.Found.{row_changed}
 use Rattle.rm_invariant.proofs.apps.Keeping.{unchanged}
 use Rattle.rm_invariant.proofs.apps.Effects as views
-use Rattle.rm_invariant.specs.masters.Invariant.{ContainersInvariant, ContainerByNumber, ContainerByState, ContainerInvariant, is_final, RemovalInvariant}
+use Rattle.rm_invariant.specs.masters.Invariant.{ContainersInvariant, ContainerByNumber, ContainerByState, ContainerInvariant, RemovalInvariant}
 use Rattle.rm_invariant.specs.masters.Preserves.{PreservesContainers}
 use Rattle.rm_invariant.specs.masters.View.{ContainerView, is_expiry, is_finish, is_granting, is_losing, container_view}
 use Rattle.rm_invariant.proofs.masters.Ends.{Alive}
-use Rattle.rm_invariant.proofs.masters.Saying.{was_final, alive_finishes, active_unended, alive_registers}
+use Rattle.rm_invariant.proofs.masters.Saying.{alive_finishes, alive_registers}
 use Rattle.rm_invariant.proofs.masters.Finishing.{finishing_after, says_so, finishing_with_new, new_master}
 use Rattle.rm_invariant.proofs.masters.Stepping.{joins_between}
 use Rattle.rm_invariant.proofs.masters.Talking.{says_talking}
@@ -52,11 +51,11 @@ expiring_marks : (c : ContainerId) (row : AppRow) (current : Current) (v : Conta
     → ContainerInvariant c (Some row) v → ContainerInvariant c (Some row) (record v { expired = set_if b v.expired; expiries = one_if b v.expiries })
 expiring_marks c row current v is st false here good = good
 expiring_marks c row current v is st true here good =
-    let says : ContainerByNumber c (current.number == c.attempt.number) current v = rw is at good.1.0 in
+    let says : ContainerByNumber c (current.number == c.attempt.number) current v = rw is at good.1 in
     let n = here refl in
     let at_ : ContainerByState c current.state current.lost (is_master_of c current.master) v = rw n at says in
     let new : ContainerByNumber c true current (record v { expired = true; expiries = suc v.expiries }) = own_expires c v current.state current.lost (is_master_of c current.master) st at_ in
-    (good.0, (rw (is, n) new, good.1.1))
+    (good.0, rw (is, n) new)
 
 module _ (settings : Settings) (h : History) (t : Tables) (k : AppsInvariant settings h t) (all : ContainersInvariant h t) (id : AttemptId) (row : AppRow) (found : row_of t.rows id.app ≡ Some row) (current : Current) (is : row.current ≡ Some current) (st : Alive current.state) (n : (current.number == id.number) ≡ true) where
   same_number : (c : ContainerId) → is_attempt id c.attempt ≡ true → (current.number == c.attempt.number) ≡ true
@@ -83,15 +82,15 @@ own_finishes c v s lost m (inr (inr e)) says = let x = rw e at says in rw e (x.0
 finishing_marks : (c : ContainerId) (row : AppRow) (current : Current) (v : ContainerView) → row.current ≡ Some current → Alive current.state → (b : Bool) → (current.number == c.attempt.number) ≡ b
     → ContainerInvariant c (Some row) v → ContainerInvariant c (Some (changed (of_app.OfAttempt of_attempt.Finish) row)) (record v { finishing = set_if b v.finishing; finishes = one_if b v.finishes })
 finishing_marks c row current v is st false n good =
-    let says : ContainerByNumber c (current.number == c.attempt.number) current v = rw is at good.1.0 in
+    let says : ContainerByNumber c (current.number == c.attempt.number) current v = rw is at good.1 in
     let at_ : ContainerByNumber c false current v = rw n at says in
     let new : ContainerByNumber c false (record current { state = next_attempt_state current.state attempt_events.Finish }) v = at_ in
-    (good.0, (rw (is, n) new, good.1.1))
+    (good.0, rw (is, n) new)
 finishing_marks c row current v is st true n good =
-    let says : ContainerByNumber c (current.number == c.attempt.number) current v = rw is at good.1.0 in
+    let says : ContainerByNumber c (current.number == c.attempt.number) current v = rw is at good.1 in
     let at_ : ContainerByState c current.state current.lost (is_master_of c current.master) v = rw n at says in
     let new : ContainerByNumber c true (record current { state = next_attempt_state current.state attempt_events.Finish }) (record v { finishing = true; finishes = suc v.finishes }) = own_finishes c v current.state current.lost (is_master_of c current.master) st at_ in
-    (good.0, (rw (is, n) new, good.1.1))
+    (good.0, rw (is, n) new)
 
 -- a master registers: its attempt is Registered
 own_registers : (c : ContainerId) (v : ContainerView) (s : AttemptState) (lost m : Bool) → Alive s → ContainerByState c s lost m v → ContainerByState c (next_attempt_state s attempt_events.Register) lost m v
@@ -99,18 +98,18 @@ own_registers c v s lost m (inl e) says = let x = rw e at says in rw e x
 own_registers c v s lost m (inr (inl e)) says = let x = rw e at says in rw e x
 own_registers c v s lost m (inr (inr e)) says = let x = rw e at says in rw e x
 
-registering_marks : (c : ContainerId) (row : AppRow) (current : Current) (v : ContainerView) → row.current ≡ Some current → Alive current.state → is_final row.state ≡ false → (b : Bool) → (current.number == c.attempt.number) ≡ b
+registering_marks : (c : ContainerId) (row : AppRow) (current : Current) (v : ContainerView) → row.current ≡ Some current → Alive current.state → (b : Bool) → (current.number == c.attempt.number) ≡ b
     → ContainerInvariant c (Some row) v → ContainerInvariant c (Some (changed of_app.Register row)) v
-registering_marks c row current v is st open_ false n good =
-    let says : ContainerByNumber c (current.number == c.attempt.number) current v = rw is at good.1.0 in
+registering_marks c row current v is st false n good =
+    let says : ContainerByNumber c (current.number == c.attempt.number) current v = rw is at good.1 in
     let at_ : ContainerByNumber c false current v = rw n at says in
     let new : ContainerByNumber c false (record current { state = next_attempt_state current.state attempt_events.Register; registered = true }) v = at_ in
-    (good.0, (rw (is, n) new, λ f. good.1.1 (was_final app_events.Register refl row.state f)))
-registering_marks c row current v is st open_ true n good =
-    let says : ContainerByNumber c (current.number == c.attempt.number) current v = rw is at good.1.0 in
+    (good.0, rw (is, n) new)
+registering_marks c row current v is st true n good =
+    let says : ContainerByNumber c (current.number == c.attempt.number) current v = rw is at good.1 in
     let at_ : ContainerByState c current.state current.lost (is_master_of c current.master) v = rw n at says in
     let new : ContainerByNumber c true (record current { state = next_attempt_state current.state attempt_events.Register; registered = true }) v = own_registers c v current.state current.lost (is_master_of c current.master) st at_ in
-    (good.0, (rw (is, n) new, λ f. good.1.1 (was_final app_events.Register refl row.state f)))
+    (good.0, rw (is, n) new)
 
 -- what a service does to the row of a master's application, which keeps the dialogue with it
 abbrev pub said_row : (Option Dialogue → Option Dialogue) → AppRow → AppRow
@@ -143,19 +142,21 @@ module _ (settings : Settings) (h : History) (t : Tables) (k : AppsInvariant set
       let num : current.number ≡ id.number = grind (arith, nat_tests) in
       rw (same, ← num) (finishing_marks c row current (container_view h t c) is st (current.number == c.attempt.number) refl says)) (λ c v says. says)
 
-  -- the history after a master registered
-  abbrev registering : History
-  registering = record h { masters = record h.masters { registered = h.masters.registered ++ new_master id ∷ [] } }
+  -- the history after a master registered, which was answered so, and with this book
+  abbrev pub registering : Reply → List Row → History
+  registering told living = record h { masters = record h.masters { registered = h.masters.registered ++ new_master id told ∷ [] }; book = living }
 
-  -- a master registers
-  pub register_joins : replies.MasterRegistered ≡ reply_to settings (abstract_scene h t) (messages.Master id Register)
-      → PreservesContainers settings h t (Served senders.Master (messages.Master id Register) replies.MasterRegistered) registering (record t { rows = with_row (registered_row talk) id.app t.rows })
-  register_joins reply =
-      joins_served settings h t k all (Served senders.Master (messages.Master id Register) replies.MasterRegistered) registering (record t { rows = with_row (registered_row talk) id.app t.rows }) id.app row (registered_row talk)
-      (record { serving = ap (λ b. b || t.blown) k.is_open; of_sender = refl; answers = reply }) refl k.recorded k.is_open (λ q. row_changed (registered_row talk) id.app q t.rows) found
-      (λ q. refl)
+  -- a master registers, after which the same containers are in the book
+  pub register_joins : (told : Reply) (living : List Row) → told ≡ reply_to settings (abstract_scene h t) (messages.Master id Register)
+      → after (live_state h t) (Served senders.Master (messages.Master id Register) told) ≡ live_state (registering told living) (record t { rows = with_row (registered_row talk) id.app t.rows })
+      → ((test : ContainerId → Bool) → list_any (λ row. test row.id) living ≡ list_any (λ row. test row.id) h.book)
+      → PreservesContainers settings h t (Served senders.Master (messages.Master id Register) told) (registering told living) (record t { rows = with_row (registered_row talk) id.app t.rows })
+  register_joins told living reply stands same_ids =
+      joins_served settings h t k all (Served senders.Master (messages.Master id Register) told) (registering told living) (record t { rows = with_row (registered_row talk) id.app t.rows }) id.app row (registered_row talk)
+      (record { serving = ap (λ b. b || t.blown) k.is_open; of_sender = refl; answers = reply }) stands k.recorded k.is_open (λ q. row_changed (registered_row talk) id.app q t.rows) found
+      (λ q. let held = same_ids (λ c. is_attempt c.attempt q) in rw held refl)
       (λ q same says.
       says_talking settings q (Some (changed of_app.Register row)) (Some (registered_row talk row)) (view h t q) (record { dialogue = talk row.dialogue; closings = row.closings; is = refl })
       (alive_registers settings q row current (view h t q) is goes current.state refl st says))
-      (λ c v. v) (λ c. let e = finishing_with_new id c.attempt h.masters.registered in rw e refl) (λ c v other. refl)
-      (λ c same says. registering_marks c row current (container_view h t c) is st (active_unended row.state goes) (current.number == c.attempt.number) refl says) (λ c v says. says)
+      (λ c v. v) (λ c. let e = finishing_with_new id told c.attempt h.masters.registered in let living_same = same_ids (λ d. is_container d c) in rw (e, living_same) refl) (λ c v other. refl)
+      (λ c same says. registering_marks c row current (container_view h t c) is st (current.number == c.attempt.number) refl says) (λ c v says. says)

@@ -1,5 +1,5 @@
 -- The clock and a master are served, of an attempt that is live for the judge: each whole step as `Serving` has it, whose row is found.
-use Rattle.rm_invariant.proofs.Common.{◌≡◌, List, [], ◌∷◌, ◌++◌, true, Option, inl, inr, refl, ℕ, Served, AttemptId, ExpireMaster, Finish, Register, Settings, has_registered, is_live, is_registered, reply_to, AttemptState, Dialogue, Tables, with_row, History, abstract_scene}
+use Rattle.rm_invariant.proofs.Common.{◌≡◌, List, [], ◌∷◌, ◌++◌, true, Option, inl, inr, refl, ℕ, Served, AttemptId, ExpireMaster, Finish, Register, Settings, has_registered, is_live, is_registered, reply_to, AttemptState, Dialogue, Tables, with_row, History, abstract_scene, Bool, ContainerId, Reply, Row, after, list_any, live_state}
 use Rattle.rm_types.specs.declared.messages.Message.TheVariants as messages
 use Rattle.rm_types.specs.declared.messages.Sender.TheVariants as senders
 use Rattle.rm_types.specs.declared.replies.Reply.TheVariants as replies
@@ -43,7 +43,10 @@ module _ (settings : Settings) (h : History) (t : Tables) (k : AppsInvariant set
   finish_live_joins talk text reply registered has = finish_joins settings h t k all id here.row here.found here.current here.is here.alive here.number active talk text reply registered has
 
   -- its master registers
-  pub register_live_joins : (talk : Option Dialogue → Option Dialogue) → replies.MasterRegistered ≡ reply_to settings (abstract_scene h t) (messages.Master id Register)
-      → PreservesContainers settings h t (Served senders.Master (messages.Master id Register) replies.MasterRegistered) (record h { masters = record h.masters { registered = h.masters.registered ++ new_master id ∷ [] } })
+  pub register_live_joins : (talk : Option Dialogue → Option Dialogue) (told : Reply) (living : List Row) → told ≡ reply_to settings (abstract_scene h t) (messages.Master id Register)
+      → after (live_state h t) (Served senders.Master (messages.Master id Register) told)
+      ≡ live_state (record h { masters = record h.masters { registered = h.masters.registered ++ new_master id told ∷ [] }; book = living }) (record t { rows = with_row (registered_row talk) id.app t.rows })
+      → ((test : ContainerId → Bool) → list_any (λ row. test row.id) living ≡ list_any (λ row. test row.id) h.book)
+      → PreservesContainers settings h t (Served senders.Master (messages.Master id Register) told) (record h { masters = record h.masters { registered = h.masters.registered ++ new_master id told ∷ [] }; book = living })
       (record t { rows = with_row (registered_row talk) id.app t.rows })
-  register_live_joins talk reply = register_joins settings h t k all id here.row here.found here.current here.is here.alive here.number active talk reply
+  register_live_joins talk told living reply stands same_ids = register_joins settings h t k all id here.row here.found here.current here.is here.alive here.number active talk told living reply stands same_ids

@@ -1,5 +1,5 @@
 -- An operation that is kept makes less of what is left to do.
-use Rattle.rm_invariant.proofs.Common.{◌≡◌, ℕ, ◌+◌, ◌*◌, ◌<◌, ◌≤◌, ◌⊎◌, inl, inr, List, [], ◌∷◌, ◌++◌, Bool, true, false, None, Some, Option, length, refl, arith, flat_map, sum_by-append, sum_by-cons, AppId, AttemptId, ContainerId, How, Op, Submission, AppRecord, AttemptRecord, last_attempt, is_epoch_op, AttemptState, SchedEvent, AppRow, Current, Tables, changed, dropped_at, dropped_by, dropped_of, kept, main_by, main_of, opening_sched, sched_by, sched_of, row_of}
+use Rattle.rm_invariant.proofs.Common.{◌≡◌, ℕ, ◌+◌, ◌*◌, ◌<◌, ◌≤◌, ◌⊎◌, inl, inr, List, [], ◌∷◌, ◌++◌, Bool, true, false, None, Some, Option, length, refl, arith, flat_map, sum_by-append, sum_by-cons, AppId, AttemptId, ContainerId, How, Op, Submission, AppRecord, AttemptRecord, last_attempt, is_epoch_op, AttemptState, SchedEvent, AppRow, Current, Tables, changed, removed_at, removed_by, removed_of, kept, main_by, main_of, opening_sched, sched_by, sched_of, row_of, removed_if, found_in}
 use Rattle.std.proofs.Common.{is_some, append-nil}
 use Rattle.std.specs.List.{sum_by}
 use Rattle.std.proofs.lemmas.List.{length-append}
@@ -12,25 +12,31 @@ use Rattle.rm_tables.specs.declared.events.SchedEvent.TheVariants as scheds
 use Rattle.rm_invariant.specs.measure.Measure.{attempt_end_measure, main_measure, opening_measure, sched_measure, untried_measure, measure}
 use Rattle.rm_invariant.proofs.measure.Rows.{attempt_end_falls, attempt_rises, end_kept_falls, saved_rises}
 use Rattle.rm_invariant.proofs.measure.Sums.{main_push, op_front, row_removed, row_rises, sched_push}
+use Rattle.rm_model.specs.Facts.{keeps}
 
 -- where a life is open, nothing weighs that is still to be gone through
 open_weighs : (is_open alive : Bool) (apps : List AppRecord) → is_open ≡ true → opening_measure is_open alive apps ≡ 0
 open_weighs true alive apps o = refl
 open_weighs false alive apps o = cc
 
--- the scheduler is told of an attempt that was dropped, if one was
-few_dropped : (row : Option AppRow) (id : AppId) (xs : List SchedEvent) → sum_by sched_measure (xs ++ dropped_by row id) ≤ sum_by sched_measure xs + 1
-few_dropped row id xs = by (dropped_by row id) (is_one row)
+-- the scheduler is told of containers that no attempt has any more, if there may be some
+few_removed : (row : Option AppRow) (keep : Bool) (id : AppId) (xs : List SchedEvent) → sum_by sched_measure (xs ++ removed_by row keep id) ≤ sum_by sched_measure xs + 1
+few_removed row keep id xs = by (removed_by row keep id) (is_one row)
   where
-    is_one : (row : Option AppRow) → (dropped_by row id ≡ []) ⊎ ((one : AttemptId) × (dropped_by row id ≡ scheds.AttemptRemoved one ∷ []))
+    is_one : (row : Option AppRow) → (removed_by row keep id ≡ []) ⊎ ((one : AttemptId) × (removed_by row keep id ≡ scheds.AttemptRemoved one ∷ []))
     is_one None = inl refl
     is_one (Some row) = at_current row.current
       where
-        at_state : (s : AttemptState) (one : AttemptId) → (dropped_at s one ≡ []) ⊎ ((two : AttemptId) × (dropped_at s one ≡ scheds.AttemptRemoved two ∷ []))
+        if_so : (b : Bool) (one : AttemptId) → (removed_if b one ≡ []) ⊎ ((two : AttemptId) × (removed_if b one ≡ scheds.AttemptRemoved two ∷ []))
+        if_so true one = inr (one, refl)
+        if_so false one = inl refl
+
+        at_state : (s : AttemptState) (one : AttemptId) → (removed_at s keep one ≡ []) ⊎ ((two : AttemptId) × (removed_at s keep one ≡ scheds.AttemptRemoved two ∷ []))
         at_state attempts.Dropped one = inr (one, refl)
+        at_state attempts.Ended one = if_so keep one
         at_state _ one = inl refl
 
-        at_current : (c : Option Current) → (dropped_of c id ≡ []) ⊎ ((one : AttemptId) × (dropped_of c id ≡ scheds.AttemptRemoved one ∷ []))
+        at_current : (c : Option Current) → (removed_of c keep id ≡ []) ⊎ ((one : AttemptId) × (removed_of c keep id ≡ scheds.AttemptRemoved one ∷ []))
         at_current None = inl refl
         at_current (Some current) = at_state current.state (record { app = id; number = current.number })
 
@@ -71,7 +77,7 @@ module _ (t : Tables) (rest : List Op) (o : t.is_open ≡ true) where
       let now = open_weighs t.is_open t.alive (kept (ops.AppEnd id how text) t).tree.apps o in
       let rows = row_rises t.settings.max_attempts 0 (changed (of_app.KeepEnd how)) id t.rows (λ row. omega (arith, end_kept_falls t.settings.max_attempts row how)) in
       let posted = main_push t.settings.max_attempts t.main mains.Retire in
-      let dropped = few_dropped (row_of t.rows id) id t.sched in
+      let dropped = few_removed (row_of t.rows id) (keeps (found_in (kept (ops.AppEnd id how text) t) id)) id t.sched in
       let more = length-append t.ended (id ∷ []) in
       omega (arith, f, before, now, rows, posted, dropped, more)
 
@@ -97,14 +103,18 @@ module _ (most : ℕ) where
   opens_with : (app : AppRecord) → sum_by (main_measure most) (main_of app) + sum_by sched_measure (sched_of app) ≤ 3
   opens_with app = by app.ending (last_attempt app.attempts)
     where
-      last_is : (last : AttemptRecord) (b : Bool) → is_some last.ending ≡ b → sum_by (main_measure most) (main_by None (Some last) app.id) + sum_by sched_measure (sched_by None (Some last) app.id) ≤ 3
-      last_is last true e = rw e (omega (arith, sum_by-cons (main_measure most) (mains.AttemptDone (record { app = app.id; number = last.id.number })) []))
-      last_is last false e = rw e (omega (arith, sum_by-cons sched_measure (scheds.AttemptRecovered (record { app = app.id; number = last.id.number })) []))
+      last_is : (last : AttemptRecord) (b : Bool) → is_some last.ending ≡ b → (k : Bool) → app.submission.keep ≡ k
+          → sum_by (main_measure most) (main_by None (Some last) app.id) + sum_by sched_measure (sched_by None (Some last) app.submission.keep app.id) ≤ 3
+      last_is last true e true k =
+          rw (e, k)
+          (omega (arith, sum_by-cons (main_measure most) (mains.AttemptDone (record { app = app.id; number = last.id.number })) [], sum_by-cons sched_measure (scheds.AttemptRecovered (record { app = app.id; number = last.id.number })) []))
+      last_is last true e false k = rw (e, k) (omega (arith, sum_by-cons (main_measure most) (mains.AttemptDone (record { app = app.id; number = last.id.number })) []))
+      last_is last false e b k = rw e (omega (arith, sum_by-cons sched_measure (scheds.AttemptRecovered (record { app = app.id; number = last.id.number })) []))
 
-      by : (end : Option (How × List ℕ)) (last : Option AttemptRecord) → sum_by (main_measure most) (main_by end last app.id) + sum_by sched_measure (sched_by end last app.id) ≤ 3
+      by : (end : Option (How × List ℕ)) (last : Option AttemptRecord) → sum_by (main_measure most) (main_by end last app.id) + sum_by sched_measure (sched_by end last app.submission.keep app.id) ≤ 3
       by (Some end) last = omega arith
       by None None = omega (arith, sum_by-cons (main_measure most) (mains.AppSaved app.id) [])
-      by None (Some last) = last_is last (is_some last.ending) refl
+      by None (Some last) = last_is last (is_some last.ending) refl app.submission.keep refl
 
   opening_weighs : (apps : List AppRecord) → sum_by (main_measure most) (flat_map main_of apps) + sum_by sched_measure (opening_sched apps) ≤ 3 * length apps
   opening_weighs [] = omega arith

@@ -1,5 +1,5 @@
 -- Of the containers that leave no more MasterLost are posted than rows go from the book.
-use Rattle.rm_invariant.proofs.Common.{◌≡◌, ℕ, ◌+◌, ◌≤◌, List, [], ◌∷◌, Bool, true, false, not, ◌||◌, filter, map, Option, length, refl, sym, ◌∙◌, arith, list_any, false≢true, length-map, sum_by-cons, BookRow, Closing, AppId, ContainerId, AppRecord, is_container, container_itself, same_container, is_of, once, has_container, AppRow, closed, closed_in, closed_one, is_masters_in, losts_of}
+use Rattle.rm_invariant.proofs.Common.{◌≡◌, ℕ, ◌+◌, ◌≤◌, List, [], ◌∷◌, Bool, true, false, not, ◌||◌, filter, map, Option, length, refl, sym, ◌∙◌, arith, list_any, false≢true, length-map, sum_by-cons, BookRow, AppId, ContainerId, AppRecord, is_container, container_itself, same_container, is_of, once, has_container, AppRow, closed, closed_in, closed_one, is_masters_in, losts_of}
 use Rattle.std.specs.Prelude.{IsPermutation}
 use Rattle.std.specs.List.{sum_by}
 use Rattle.std.proofs.lemmas.List.Sorted.{length_permutation}
@@ -7,6 +7,7 @@ use Rattle.rm_invariant.proofs.nodes.Ascending.{permuted_has}
 use Rattle.rm_tables.specs.declared.events.MainEvent.TheVariants as mains
 use Rattle.rm_invariant.specs.measure.Measure.{main_measure, rows_measure}
 use Rattle.rm_invariant.proofs.measure.Sums.{row_rises}
+use Rattle.rm_types.specs.declared.containers.ClosingOf.{ClosingOf}
 
 -- each MasterLost weighs 1, and is of one of the containers
 pub losts_weigh : (most : ℕ) (apps : List AppRecord) (ids : List ContainerId) → sum_by (main_measure most) (losts_of apps ids) ≤ length ids
@@ -18,10 +19,10 @@ losts_weigh most apps (id ∷ ids) = by (is_masters_in apps id) refl (losts_weig
     by false e rest = rw e (omega (arith, rest))
 
 -- that masters are to be told of them is nothing to the rows
-pub closed_weighs : (most : ℕ) (rows : List (AppId × Option AppRow)) (closings : List Closing) → rows_measure most (closed_in rows closings) ≤ rows_measure most rows
+pub closed_weighs : (most : ℕ) (rows : List (AppId × Option AppRow)) (closings : List ClosingOf) → rows_measure most (closed_in rows closings) ≤ rows_measure most rows
 closed_weighs most rows [] = omega arith
 closed_weighs most rows (closing ∷ closings) =
-    let one = row_rises most 0 (closed closing) closing.id.attempt.app rows (λ row. omega arith) in
+    let one = row_rises most 0 (closed closing) closing.attempt.app rows (λ row. omega arith) in
     let more = closed_weighs most (closed_one rows closing) closings in
     omega (arith, one, more)
 

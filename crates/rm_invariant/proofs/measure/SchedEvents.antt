@@ -1,5 +1,5 @@
 -- Each event of the scheduler's queue makes less of what is left to do.
-use Rattle.rm_invariant.proofs.Common.{◌≡◌, ◌<◌, ◌≤◌, ◌&&◌, ℕ, ◌+◌, ◌*◌, List, [], ◌∷◌, ◌++◌, Bool, true, false, not, filter, fold, map, find, Option, None, Some, length, refl, ap, arith, if◌then◌else◌, bytes_eq, list_any, false≢true, length-map, sum_by-append, sum_by-cons, BookRow, Cause, Grant, Held, Entry, AppId, ContainerId, Resource, is_attempt, and_first, AsksOf, entering, granted_rows, has_row, is_of, book_row_taken, taken_rows, is_held, once, SchedEvent, NodeRow, AppRow, Tables, counted_in, tables_may_take, taken_in, tables_with_counted, found_in, sched_popped, sched_worked, changed, closings_of, is_masters_in, losts_of, grants_on, masters_granted, rows_after_grant, waits_for_master, row_of, EndsByEvent, is_on, is_released, master_asked, sched_step, Ended, subst, Ascend, is_container}
+use Rattle.rm_invariant.proofs.Common.{◌≡◌, ◌<◌, ◌≤◌, ◌&&◌, ℕ, ◌+◌, ◌*◌, List, [], ◌∷◌, ◌++◌, Bool, true, false, not, filter, fold, map, find, Option, None, Some, length, refl, ap, arith, if◌then◌else◌, bytes_eq, list_any, false≢true, length-map, sum_by-append, sum_by-cons, BookRow, Cause, Grant, Held, Entry, AppId, ContainerId, Resource, is_attempt, and_first, AsksOf, entering, granted_rows, has_row, is_of, book_row_taken, taken_rows, is_held, once, SchedEvent, NodeRow, AppRow, Tables, counted_in, tables_may_take, taken_in, tables_with_counted, found_in, sched_popped, sched_worked, changed, closings_of, is_masters_in, losts_of, grants_on, masters_granted, rows_after_grant, waits_for_master, row_of, EndsByEvent, is_on, is_released, master_asked, sched_step, Ended, subst, Ascend, is_container, is_app}
 use Rattle.std.specs.List.{sum_by}
 use Rattle.std.proofs.lemmas.List.{length-append}
 use Rattle.rm_types.specs.declared.containers.Cause.TheVariants as causes
@@ -14,8 +14,10 @@ use Rattle.rm_invariant.proofs.measure.Leaving.{all_leave, closed_weighs, each_l
 use Rattle.rm_invariant.proofs.measure.Rows.{granted_same}
 use Rattle.rm_invariant.proofs.measure.Sums.{main_push, row_rises, sched_front}
 use Rattle.rm_tables.specs.Absorbing.{book_not_taken}
-use Rattle.rm_tables.specs.Leaving.{left_all}
-use Rattle.rm_invariant.specs.events.SchedOutcomes.{SchedOutcome, ending_of}
+use Rattle.rm_tables.specs.Leaving.{is_stale_in, left_all}
+use Rattle.rm_tables.specs.Missing.{is_at_disposal_in}
+use Rattle.rm_tables.specs.SchedEvents.{ends_as_done}
+use Rattle.rm_invariant.specs.events.SchedOutcomes.{SchedOutcome, leaving_by}
 use Rattle.rm_invariant.specs.events.SchedOutcomes as outcomes
 use Rattle.rm_invariant.proofs.events.SchedOutcomes.{ids_in, sched_outcome}
 
@@ -81,15 +83,6 @@ rows_granted most rows (grant ∷ grants) =
     let more = rows_granted most (rows_after_grant rows grant) grants in
     omega (arith, one, more)
 
--- a container that stands on a node has a row
-on_has : (name : List ℕ) (id : ContainerId) (rows : List BookRow) → is_on name (find (is_of id) rows) ≡ true → list_any (is_of id) rows ≡ true
-on_has name id [] h = absurd (false≢true h)
-on_has name id (row ∷ rows) h = by (is_of id row) refl (on_has name id rows)
-  where
-    by : (b : Bool) → is_of id row ≡ b → (is_on name (find (is_of id) rows) ≡ true → list_any (is_of id) rows ≡ true) → list_any (is_of id) (row ∷ rows) ≡ true
-    by true e rest = rw e refl
-    by false e rest = rw e (rest (rw e at h))
-
 -- where none leave, all rows stay
 none_leave : (rows : List BookRow) → length (left_of [] rows) + length {A = ContainerId} [] ≤ length rows
 none_leave rows = omega (arith, few_filtered (λ row. not (list_any (λ id. is_container id row.id) [])) rows)
@@ -102,33 +95,42 @@ module _ (t : Tables) (e : SchedEvent) (rest : List SchedEvent) (front : t.sched
   asked : (asks : List AsksOf) → 1 ≤ sched_measure e → measure (record (sched_popped t) { asks = asks }) < measure t
   asked asks one = let f = sched_front t.sched e rest front in omega (arith, f, one)
 
-  -- containers leave, each with its row
-  ended : (cause : Cause) (id : ContainerId) (ids : List ContainerId) → 1 ≤ sched_measure e → length (left_of (id ∷ ids) t.book.rows) + length (id ∷ ids) ≤ length t.book.rows → Decreases (Ended cause (id ∷ ids), left_all cause (id ∷ ids) t)
-  ended cause id ids one go =
+  -- containers leave, each with its row or paid for by the event
+  ended : (cause : Cause) (id : ContainerId) (ids : List ContainerId) → length (left_of (id ∷ ids) t.book.rows) + length (id ∷ ids) < length t.book.rows + sched_measure e → Decreases (Ended cause (id ∷ ids), left_all cause (id ∷ ids) t)
+  ended cause id ids go =
       let f = sched_front t.sched e rest front in
       let posted = sum_by-append (main_measure t.settings.max_attempts) t.main (losts_of t.tree.apps (id ∷ ids)) in
       let losts = losts_weigh t.settings.max_attempts t.tree.apps (id ∷ ids) in
       let rows = closed_weighs t.settings.max_attempts t.rows (closings_of t.tree.apps cause (id ∷ ids)) in
-      omega (arith, f, one, go, posted, losts, rows)
+      omega (arith, f, go, posted, losts, rows)
 
 -- each event weighs something
 weighs : (e : SchedEvent) → 1 ≤ sched_measure e
 weighs (scheds.AppAdded id) = omega arith
 weighs _ = omega arith
 
--- the containers that end by an event each have a row, and leave with it
-ending_leaves : (t : Tables) (e : SchedEvent) (list : List ContainerId) → EndsByEvent e t list → (cause : Cause) (ids : List ContainerId) → ending_of e list t ≡ Some (cause, ids) → length (left_of ids t.book.rows) + length ids ≤ length t.book.rows
-ending_leaves t e list ends cause ids is = subst (λ (all : List ContainerId). length (left_of all t.book.rows) + length all ≤ length t.book.rows) (ap ids_in is) (by e ends)
+-- each once is no more
+few_once : (ids : List ContainerId) → length (once ids) ≤ length ids
+few_once [] = omega arith
+few_once (id ∷ ids) = let more = few_once ids in omega (arith, more, few_filtered (λ other. not (is_container other id)) (once ids))
+
+-- the containers that end by an event each have a row, and leave with it, or the event weighs as much
+ending_leaves : (t : Tables) (e : SchedEvent) (list : List ContainerId) → EndsByEvent e t list → (cause : Cause) (ids : List ContainerId) → leaving_by e list t ≡ Some (cause, ids) → length (left_of ids t.book.rows) + length ids < length t.book.rows + sched_measure e
+ending_leaves t e list ends cause ids is = subst (λ (all : List ContainerId). length (left_of all t.book.rows) + length all < length t.book.rows + sched_measure e) (ap ids_in is) (by e ends)
   where
     all_once : (p : ContainerId → Bool) (list : List ContainerId) → ((id : ContainerId) → p id ≡ true → list_any (is_of id) t.book.rows ≡ true) → length (left_of (once (filter p list)) t.book.rows) + length (once (filter p list)) ≤ length t.book.rows
     all_once p list each = each_leaves t.book.rows (once (filter p list)) (once_leave t.book.rows (filter p list) (passing_have t.book.rows p each list))
 
-    by : (e : SchedEvent) → EndsByEvent e t list → length (left_of (ids_in (ending_of e list t)) t.book.rows) + length (ids_in (ending_of e list t)) ≤ length t.book.rows
-    by (scheds.AttemptRemoved id) ends = all_leave (λ row. is_attempt row.id.attempt id) t.book.rows list ends.same
-    by (scheds.Release attempt released) ends = all_once (is_released attempt t) released (λ id h. and_first (has_row t.book id) (is_attempt id.attempt attempt && not (is_masters_in t.tree.apps id)) h)
-    by (scheds.NodeDone node done) ends = all_once (λ id. is_on node (book_row_of t.book id)) done (λ id h. on_has node id t.book.rows h)
-    by (scheds.NodeLost node) ends = all_leave (λ row. bytes_eq row.node node) t.book.rows list ends.same
-    by _ ends = none_leave t.book.rows
+    by : (e : SchedEvent) → EndsByEvent e t list → length (left_of (ids_in (leaving_by e list t)) t.book.rows) + length (ids_in (leaving_by e list t)) < length t.book.rows + sched_measure e
+    by (scheds.AttemptRemoved id) ends = let go = all_leave (λ row. is_app row.id.attempt.app id.app && is_stale_in t.tree.apps row.id) t.book.rows list ends.same in omega (arith, go)
+    by (scheds.Release attempt released) ends =
+        let go = all_once (is_released attempt t) released (λ id h. and_first (has_row t.book id) (is_at_disposal_in t.tree.apps attempt id && not (is_masters_in t.tree.apps id)) h) in
+        omega (arith, go)
+    by (scheds.NodeDone node done) ends =
+        let ended : List ContainerId = once (filter (ends_as_done node t) done) in
+        omega (arith, few_filtered (λ row. not (list_any (λ id. is_container id row.id) ended)) t.book.rows, few_once (filter (ends_as_done node t) done), few_filtered (ends_as_done node t) done)
+    by (scheds.NodeLost node) ends = let go = all_leave (λ row. bytes_eq row.node node) t.book.rows list ends.same in omega (arith, go)
+    by e ends = let go = none_leave t.book.rows in let one = weighs e in omega (arith, go, one)
 
 -- each event
 pub sched_lighter : (t : Tables) → FewReported t → FewGranted t → (e : SchedEvent) (rest : List SchedEvent) → t.sched ≡ e ∷ rest → (list : List ContainerId) → EndsByEvent e t list
@@ -139,7 +141,7 @@ sched_lighter t reported granted e rest front list ends = by e (sched_step e lis
     by e done front ends (outcomes.idles one nothing) = asked t one rest front t.asks (weighs one)
     by e done front ends (outcomes.posts id) = let f = sched_front t.sched (scheds.AppAdded id) rest front in omega (arith, f, main_push t.settings.max_attempts t.main (mains.AppAccepted id))
     by e done front ends (outcomes.asks id row current is state number) = asked t (scheds.AttemptAdded id) rest front (master_asked id (found_in t id.app) t.asks) (weighs (scheds.AttemptAdded id))
-    by e done front ends (outcomes.ends one cause id ids is) = ended t one rest front cause id ids (weighs one) (ending_leaves t one list ends cause (id ∷ ids) is)
+    by e done front ends (outcomes.ends one cause id ids is) = ended t one rest front cause id ids (ending_leaves t one list ends cause (id ∷ ids) is)
     by e done front ends (outcomes.absorbs name turn row found waits) =
         let f = sched_front t.sched (scheds.NodeAdded name turn) rest front in
         let few = reported name row found in

@@ -7,7 +7,7 @@ use Rattle.rm_model.specs.Changes.{in_life}
 use Rattle.rm_model.specs.Replies.{open_reply}
 use Rattle.rm_model.specs.State.{NodeState}
 use Rattle.rm_invariant.specs.apps.Invariant.{RowInvariant}
-use Rattle.rm_invariant.specs.Step.{AppsInvariant}
+use Rattle.rm_invariant.specs.Step.{AppsInvariant, Step}
 use Rattle.rm_invariant.specs.apps.View.{View, is_add, is_queueing, view}
 use Rattle.rm_invariant.proofs.apps.Counts.{count_append}
 use Rattle.rm_invariant.proofs.apps.Keeping.{in_scene}
@@ -19,6 +19,9 @@ use Rattle.rm_invariant.specs.masters.Sound.{RecordsAreSound}
 use Rattle.rm_invariant.proofs.masters.Stepping.{marks_stay}
 use Rattle.rm_invariant.specs.events.Refines.{Refines}
 use Rattle.rm_invariant.specs.Core.{Nothing, CoreInvariant, PreservesCore}
+use Rattle.rm_invariant.specs.events.Here.{astray_at}
+use Rattle.rm_invariant.proofs.nodes.Astray.{none_strays}
+use Rattle.rm_invariant.proofs.nodes.Moved.{fewer_astray}
 
 -- the answer of an open life, where it is open
 pub if_open : (b : Bool) (answer refusal : Reply) → b ≡ true → (if b then answer else refusal) ≡ answer
@@ -60,12 +63,15 @@ module _ (settings : Settings) (h : History) (t : Tables) (w : CoreInvariant set
 
   -- a message after which all of it holds again, by this history
   pub served_whole : (g : History) (next : Tables) → g.kept ≡ h.kept → next.awaiting ≡ t.awaiting → life_after (abstract_scene h t) message reply ≡ abstract_life g next → AppsInvariant settings g next → ContainersInvariant g next
-      → RecordsAreSound next.tree.apps → Refines (abstract_life g next) next → NodesInvariant g.nodes g.book next.sched → BookInvariant (abstract_life g next) Nothing → PreservesCore settings h t (Served (sender_of message) message reply, next)
+      → RecordsAreSound next.tree.apps → Refines (abstract_life g next) next → NodesInvariant (astray_at settings h t) g.nodes g.book next.sched → BookInvariant (abstract_life g next) Nothing → PreservesCore settings h t (Served (sender_of message) message reply, next)
   served_whole g next kept awaiting life keeps all sound agrees nodes book =
+      let step : Step settings h t (Served (sender_of message) message reply) g next =
+      record { lawful = in_scene settings h t w.keeps (Served (sender_of message) message reply) may_serve; same = served_state g next kept awaiting life; keeps = keeps } in
+      let fewer = none_strays settings h t w.keeps (Served (sender_of message) message reply) g next step refl refl in
       record {
         next = g;
-        step = record { lawful = in_scene settings h t w.keeps (Served (sender_of message) message reply) may_serve; same = served_state g next kept awaiting life; keeps = keeps };
-        whole = record { keeps = keeps; marks = all; sound = sound; agrees = agrees; nodes = nodes; book = book };
+        step = step;
+        whole = record { keeps = keeps; marks = all; sound = sound; agrees = agrees; nodes = fewer_astray (astray_at settings h t) (astray_at settings g next) fewer g.nodes g.book next.sched nodes; book = book };
       }
 
   -- more ids were given
@@ -97,24 +103,19 @@ module _ (settings : Settings) (h : History) (t : Tables) (w : CoreInvariant set
         rw (removals, living) refl
 
     pub changed_whole : life_after (abstract_scene h t) message reply ≡ abstract_life changed_history changed_tables → OfNodes events → SameHeld h.book rows
-        → SameRows book.rows rows → SameNodes book in_nodes nodes → NodesInvariant nodes rows (t.sched ++ events) → BookInvariant (abstract_life changed_history changed_tables) Nothing
+        → SameRows book.rows rows → SameNodes book in_nodes nodes → NodesInvariant (astray_at settings h t) nodes rows (t.sched ++ events) → BookInvariant (abstract_life changed_history changed_tables) Nothing
         → PreservesCore settings h t (Served (sender_of message) message reply, changed_tables)
     changed_whole life none same same_rows same_nodes good holds =
         record {
           next = changed_history;
-          step =
-              record {
-                lawful = in_scene settings h t w.keeps (Served (sender_of message) message reply) may_serve;
-                same = served_state changed_history changed_tables refl refl life;
-                keeps = keeps;
-              };
+          step = step;
           whole =
               record {
                 keeps = keeps;
                 marks = marks_stay h changed_history t changed_tables refl (counts_stay none same) w.marks;
                 sound = w.sound;
                 agrees = record { rows = same_rows; nodes = same_nodes; asks = w.agrees.asks; closings = w.agrees.closings; masters = w.agrees.masters };
-                nodes = good;
+                nodes = fewer_astray (astray_at settings h t) (astray_at settings changed_history changed_tables) fewer nodes rows (t.sched ++ events) good;
                 book = holds;
               };
         }
@@ -126,6 +127,12 @@ module _ (settings : Settings) (h : History) (t : Tables) (w : CoreInvariant set
               recorded = w.keeps.recorded;
               all = λ q. subst (λ (v : View). RowInvariant settings q (row_of t.rows q.app) v) (sym (views_stay none same q)) (w.keeps.all q);
             }
+
+        step : Step settings h t (Served (sender_of message) message reply) changed_history changed_tables
+        step = record { lawful = in_scene settings h t w.keeps (Served (sender_of message) message reply) may_serve; same = served_state changed_history changed_tables refl refl life; keeps = keeps }
+
+        fewer : (c : ContainerId) → astray_at settings changed_history changed_tables c ≡ true → astray_at settings h t c ≡ true
+        fewer = none_strays settings h t w.keeps (Served (sender_of message) message reply) changed_history changed_tables step refl refl
 
   -- a message after which nothing changed
   pub still_whole : life_after (abstract_scene h t) message reply ≡ abstract_life h t → PreservesCore settings h t (Served (sender_of message) message reply, t)

@@ -22,6 +22,7 @@ use Rattle.rm_invariant.proofs.events.Knowing.{rows_apart}
 use Rattle.rm_invariant.proofs.messages.Answered.{OfNodes, changed_whole, still_whole}
 use Rattle.rm_invariant.proofs.messages.Changes.{beaten_held, beaten_holds}
 use Rattle.rm_invariant.proofs.messages.Registering.{register_whole}
+use Rattle.rm_invariant.specs.events.Here.{astray_at}
 
 -- what a beat posts is the same by both names, and of no application
 same_events : (name : List ℕ) (done : List ContainerId) → events_told name done ≡ beat_events name done
@@ -71,10 +72,10 @@ module _ (settings : Settings) (h : History) (t : Tables) (w : CoreInvariant set
         (with_same t.book name (beaten_row (id + 1) answer) (beaten launched done answer) t.nodes h.nodes (λ one. refl) w.agrees.nodes
         (λ r o a b alike. beaten_alike r o (unwrapped (sym a ∙ in_tables)) (unwrapped_told (sym b ∙ told)) alike))
 
-    good_now : NodesInvariant (with_told (beaten launched done answer) name h.nodes) rows_now (t.sched ++ beat_events name done)
+    good_now : NodesInvariant (astray_at settings h t) (with_told (beaten launched done answer) name h.nodes) rows_now (t.sched ++ beat_events name done)
     good_now =
-        subst (λ (events : List SchedEvent). NodesInvariant (with_told (beaten launched done answer) name h.nodes) rows_now (t.sched ++ events)) (same_events name done)
-        (beat_good (abstract_scene h t) t.sched name running done launched answer node told w.nodes)
+        subst (λ (events : List SchedEvent). NodesInvariant (astray_at settings h t) (with_told (beaten launched done answer) name h.nodes) rows_now (t.sched ++ events)) (same_events name done)
+        (beat_good (astray_at settings h t) (abstract_scene h t) t.sched name running done launched answer node told w.nodes)
 
     new_whole : (id == node.last_id) ≡ true → (id == row.last_id) ≡ true → answer ≡ beat_reply (abstract_scene h t) id running (Some node)
         → PreservesCore settings h t (Served senders.Node (messages.Node name beats_so) answer, after_node name beats_so answer t)

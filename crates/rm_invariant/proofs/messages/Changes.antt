@@ -86,7 +86,7 @@ changed_holds life change name more keeps offers launches h =
 -- the states and marks of containers change, which stand where they stood
 module _ (change : Row → Row) (same_id : (row : Row) → (change row).id ≡ row.id) (same_node : (row : Row) → (change row).node ≡ row.node) where
   -- a test of containers and their nodes passes as before
-  any_changed : (p : ContainerId → List ℕ → Bool) (rows : List Row) → list_any (λ row. p row.id row.node) (map change rows) ≡ list_any (λ row. p row.id row.node) rows
+  pub any_changed : (p : ContainerId → List ℕ → Bool) (rows : List Row) → list_any (λ row. p row.id row.node) (map change rows) ≡ list_any (λ row. p row.id row.node) rows
   any_changed p [] = refl
   any_changed p (row ∷ rows) = let a = same_id row in let b = same_node row in rw (a, b, any_changed p rows) refl
 

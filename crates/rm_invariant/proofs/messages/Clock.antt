@@ -16,6 +16,7 @@ use Rattle.rm_invariant.specs.Core.{Nothing, CoreInvariant, PreservesCore}
 use Rattle.rm_invariant.proofs.events.Leaving.{stepped_whole, tidied_holds}
 use Rattle.rm_invariant.proofs.messages.Answered.{changed_whole, if_open, later_whole, still_whole}
 use Rattle.rm_invariant.proofs.messages.Changes.{changed_holds, same_held}
+use Rattle.rm_invariant.specs.events.Here.{astray_at}
 
 -- a node that is found
 found_node : (p : NodeState → Bool) (o : Option NodeState) → is_some_and p o ≡ true → (node : NodeState) × (o ≡ Some node)
@@ -38,7 +39,7 @@ module _ (settings : Settings) (h : History) (t : Tables) (w : CoreInvariant set
       (record { adds = λ q. refl; queueings = λ q. refl; removals = λ c. refl }) (same_held h.book) w.agrees.rows
       (tidied_same t.book (with_node (changed_row of_node.Lose) name t.nodes) h.book (with_told expired name h.nodes)
       (with_same t.book name (changed_row of_node.Lose) expired t.nodes h.nodes (λ one. refl) w.agrees.nodes (λ r o a b alike. let lost = expires r.state in rw lost (ap (λ (x : PlainNode). record x { phase = Lost }) alike))))
-      (expire_good (abstract_scene h t) t.sched name k.0 k.1 w.nodes)
+      (expire_good (astray_at settings h t) (abstract_scene h t) t.sched name k.0 k.1 w.nodes)
       (let holds = tidied_holds changed Nothing (changed_holds (abstract_life h t) expired name Nothing (λ one. refl) (λ one. refl) (λ one l. l) w.book) in
       record { apart = holds.apart; rows = holds.rows; left = holds.left; launches = holds.launches })
 
@@ -61,7 +62,7 @@ module _ (settings : Settings) (h : History) (t : Tables) (w : CoreInvariant set
   master_lost attempt live =
       let answers : Ok ≡ clock_reply (abstract_scene h t) (ExpireMaster attempt) = rw live refl in
       let life : LifeState = record (abstract_life h t) { masters = record h.masters { expired = h.masters.expired ++ attempt ∷ [] } } in
-      stepped_whole settings h t (Served senders.Clock (messages.Clock (ExpireMaster attempt)) Ok) (record t { main = t.main ++ mains.AttemptExpired attempt ∷ [] }) life
+      stepped_whole settings h t (Served senders.Clock (messages.Clock (ExpireMaster attempt)) Ok) (record t { main = t.main ++ mains.AttemptExpired attempt ∷ [] }) life w.keeps refl refl
       (record { next = _; joins = expire_live_joins settings h t w.keeps w.marks w.sound attempt live (answers ∙ sym (if_open t.is_open (clock_reply (abstract_scene h t) (ExpireMaster attempt)) _ w.keeps.is_open)) }) refl w.sound
       (record { rows = w.agrees.rows; nodes = w.agrees.nodes; asks = w.agrees.asks; closings = w.agrees.closings; masters = w.agrees.masters })
       w.nodes (record { apart = w.book.apart; rows = w.book.rows; left = w.book.left; launches = w.book.launches })

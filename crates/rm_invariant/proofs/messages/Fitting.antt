@@ -1,6 +1,6 @@
 -- The current attempt of an application is the last recorded one, or the next one, with whose master nobody spoke: each event of both queues
 -- keeps it.
-use Rattle.rm_invariant.proofs.Common.{◌≡◌, ℕ, ◌≤◌, ◌⊎◌, inl, inr, List, [], ◌∷◌, Bool, true, false, Option, None, Some, length, fold, refl, sym, ◌∙◌, ap, subst, arith, false≢true, or_right, Closing, Grant, AppId, AttemptId, ContainerId, AppRecord, AttemptRecord, Settings, is_app, is_nil, is_some_and, last_attempt, record_of, same_app, has_failed, attempts_in, AttemptState, AttemptChange, RowChange, MainEvent, SchedEvent, AppRow, Current, Tables, main_worked, sched_worked, attempt_after, changed, current_after, granted_at, closed_in, main_step, rows_after_grant, row_of, with_row, sched_step, closings_for, History}
+use Rattle.rm_invariant.proofs.Common.{◌≡◌, ℕ, ◌≤◌, ◌⊎◌, inl, inr, List, [], ◌∷◌, Bool, true, false, Option, None, Some, length, fold, refl, sym, ◌∙◌, ap, subst, arith, false≢true, or_right, Grant, AppId, AttemptId, ContainerId, AppRecord, AttemptRecord, Settings, is_app, is_nil, is_some_and, last_attempt, record_of, same_app, has_failed, attempts_in, AttemptState, AttemptChange, RowChange, MainEvent, SchedEvent, AppRow, Current, Tables, main_worked, sched_worked, attempt_after, changed, current_after, granted_at, closed_in, main_step, rows_after_grant, row_of, with_row, sched_step, closings_for, History}
 use Rattle.std.proofs.Common.{option_map}
 use Rattle.rm_states.specs.declared.attempt.states.AttemptState.TheVariants as attempts
 use Rattle.rm_tables.specs.declared.changes.AttemptChange.TheVariants as of_attempt
@@ -18,6 +18,7 @@ use Rattle.rm_invariant.specs.messages.Fits.{FitsCurrent, EachRowFits}
 use Rattle.rm_invariant.specs.events.Outcomes.{Outcome}
 use Rattle.rm_invariant.proofs.messages.Shapes.{RowsBy, Shape, main_shape}
 use Rattle.rm_invariant.proofs.events.SchedShapes.{RowsAfter, SchedShape, sched_shape}
+use Rattle.rm_types.specs.declared.containers.ClosingOf.{ClosingOf}
 
 -- an attempt is recorded
 abbrev pub is_recorded : AttemptState → Bool
@@ -212,7 +213,7 @@ then_changed rows middle next first second q now found =
     (a.0, a.1, record { number = b.2.number ∙ a.2.number; silent = λ e. b.2.silent (a.2.silent e) })
 
 -- endings are to be told
-closed_same : (closings : List Closing) (rows : List (AppId × Option AppRow)) → RowsSame rows (closed_in rows closings)
+closed_same : (closings : List ClosingOf) (rows : List (AppId × Option AppRow)) → RowsSame rows (closed_in rows closings)
 closed_same closings rows q now found = by (row_of rows q) refl (sym (rows_told closings rows q) ∙ found)
   where
     by : (o : Option AppRow) → row_of rows q ≡ o → option_map (telling_more (closings_for closings q)) o ≡ Some now → (was : AppRow) × (row_of rows q ≡ Some was) × SameCurrent was now

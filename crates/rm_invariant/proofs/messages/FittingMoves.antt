@@ -35,7 +35,7 @@ use Rattle.rm_invariant.proofs.messages.Outcomes.{message_outcome, registers_liv
 -- MESSAGES
 
 -- a row that is put behind the others is found, or another one is as before
-put_found : (id : AppId) (row : AppRow) (rows : List (AppId × Option AppRow)) (q : AppId) (now : AppRow) → row_of (rows ++ (id, Some row) ∷ []) q ≡ Some now → (row_of rows q ≡ Some now) ⊎ (row ≡ now)
+pub put_found : (id : AppId) (row : AppRow) (rows : List (AppId × Option AppRow)) (q : AppId) (now : AppRow) → row_of (rows ++ (id, Some row) ∷ []) q ≡ Some now → (row_of rows q ≡ Some now) ⊎ (row ≡ now)
 put_found id row [] q now found = by (is_app q id) refl
   where
     by : (b : Bool) → is_app q id ≡ b → (row_of [] q ≡ Some now) ⊎ (row ≡ now)
@@ -72,10 +72,10 @@ module _ (settings : Settings) (h : History) (t : Tables) (fit : EachRowFits t) 
   none_spoken f None e = refl
   none_spoken f (Some one) e = cc
 
-  registered_goes : (attempt : AttemptId) (reply : Reply) (row : AppRow) → lives_by attempt (Some row) ≡ true → RowGoes t (registered attempt reply t) attempt.app (registered_row (dialogue_begun reply) row)
+  registered_goes : (attempt : AttemptId) (reply : Reply) (row : AppRow) → lives_by attempt (Some row) ≡ true → RowGoes t (registered attempt reply t) attempt.app (registered_row (dialogue_begun reply t.book.added) row)
   registered_goes attempt reply row lives = by row.current refl
     where
-      by : (c : Option Current) → row.current ≡ c → RowGoes t (registered attempt reply t) attempt.app (registered_row (dialogue_begun reply) row)
+      by : (c : Option Current) → row.current ≡ c → RowGoes t (registered attempt reply t) attempt.app (registered_row (dialogue_begun reply t.book.added) row)
       by None is = inl (rw is refl)
       by (Some current) is =
           let alive : is_alive current.state ≡ true = alive_with current.state (current.number == attempt.number) (rw is at lives) in
@@ -84,8 +84,8 @@ module _ (settings : Settings) (h : History) (t : Tables) (fit : EachRowFits t) 
   said_same : (text : List ℕ) (row : AppRow) → SameCurrent row (said_row (with_text text) row)
   said_same text row = record { number = (change_same (of_app.OfAttempt of_attempt.Finish) row refl).number; silent = none_spoken (λ one. record one { finishing = Some text }) row.dialogue }
 
-  told_same : (attempt : AttemptId) (id : ℕ) (reply : Reply) (row : AppRow) → SameCurrent row (told_row (with_answer id reply) (without_closings attempt) row)
-  told_same attempt id reply row = record { number = refl; silent = none_spoken (λ one. record one { last_id = id; last_reply = reply }) row.dialogue }
+  told_same : (attempt : AttemptId) (id : ℕ) (reply : Reply) (told : ℕ) (row : AppRow) → SameCurrent row (told_row (with_answer id reply told) (without_closings attempt) row)
+  told_same attempt id reply told row = record { number = refl; silent = none_spoken (λ one. record one { last_id = id; last_reply = reply; told = told }) row.dialogue }
 
   -- a master is told that it registered only where its attempt lives
   abbrev AnswersSo : Message → Reply → Type 0
@@ -101,12 +101,12 @@ module _ (settings : Settings) (h : History) (t : Tables) (fit : EachRowFits t) 
       by q now (inr new) = inl (ap (λ (row : AppRow). row.current) (sym new))
   message_goes live message reply next is (comes.wishes user id row found new) = goes_with t next id (changed of_app.Wish) refl (λ q apart. refl) (λ row there. inr (inr (row, there, change_same of_app.Wish row refl, refl)))
   message_goes live message reply next is (comes.registers attempt answer so) =
-      goes_with t next attempt.app (registered_row (dialogue_begun answer)) refl (λ q apart. refl)
+      goes_with t next attempt.app (registered_row (dialogue_begun answer t.book.added)) refl (λ q apart. refl)
       (λ row there. registered_goes attempt answer row (ap (lives_by attempt) (sym there) ∙ sym (live attempt) ∙ registers_live (abstract_scene h t) attempt answer so is))
   message_goes live message reply next is (comes.finishes attempt text goes) = goes_with t next attempt.app (said_row (with_text text)) refl (λ q apart. refl) (λ row there. inr (inr (row, there, said_same text row, refl)))
   message_goes live message reply next is (comes.allocates attempt id asks release answer so new) =
-      goes_with t next attempt.app (told_row (with_answer (id + 1) answer) (without_closings attempt)) refl (λ q apart. refl)
-      (λ row there. inr (inr (row, there, told_same attempt (id + 1) answer row, refl)))
+      goes_with t next attempt.app (told_row (with_answer (id + 1) answer t.book.added) (without_closings attempt)) refl (λ q apart. refl)
+      (λ row there. inr (inr (row, there, told_same attempt (id + 1) answer t.book.added row, refl)))
   message_goes live message reply next is _ = still next refl refl
 
   pub message_fits : ((attempt : AttemptId) → is_live (abstract_scene h t) attempt ≡ lives_by attempt (row_of t.rows attempt.app)) → (message : Message) (reply : Reply) → AnswersSo message reply → (entry : Entry)

@@ -22,7 +22,8 @@ module _ (m : Scene) where
   of_client user _ _ = lives.idles _ _
 
   of_master : (attempt : AttemptId) (ask : MasterAsk) (reply : Reply) → LifeOutcome m (messages.Master attempt ask) reply (life_after_master m attempt ask reply)
-  of_master attempt masters.Register replies.MasterRegistered = lives.registers attempt _
+  of_master attempt masters.Register replies.MasterRegistered = lives.registers attempt _ m.life.book
+  of_master attempt masters.Register (replies.Took kept) = lives.registers attempt _ _
   of_master attempt (masters.Allocate id asks release) (replies.Allocated next grants ended) = by (is_new_to_master m attempt id) refl
     where
       by : (b : Bool) → is_new_to_master m attempt id ≡ b

@@ -1,15 +1,17 @@
 -- Each row with the released mark has its release on its way: each event of both queues keeps it. Once the release comes, what it names has left.
-use Rattle.rm_invariant.proofs.Common.{◌≡◌, drop, inl, inr, ℕ, List, [], ◌∷◌, Bool, true, false, not, Some, filter, map, refl, sym, ◌∙◌, ap, subst, if◌then◌else◌, list_any, false≢true, Running, Grant, Held, Entry, AttemptId, ContainerId, AppRecord, Settings, is_attempt, is_container, Records, container_itself, same_container, has_row, row_absorbed, row_taken, is_held, after, is_living, once, has_container, row_granted, Row, MainEvent, SchedEvent, Tables, main_worked, sched_worked, ended_by, is_masters_in, main_step, is_released, sched_step, History, live_state}
+use Rattle.rm_invariant.proofs.Common.{◌≡◌, drop, inl, inr, ℕ, List, [], ◌∷◌, Bool, true, false, not, Some, filter, map, refl, sym, ◌∙◌, ap, subst, if◌then◌else◌, list_any, false≢true, Running, Grant, Held, Entry, AttemptId, ContainerId, AppRecord, Settings, is_attempt, is_container, Records, container_itself, same_container, has_row, row_absorbed, row_taken, is_held, after, is_living, once, has_container, row_granted, Row, MainEvent, SchedEvent, Tables, main_worked, sched_worked, ended_by, is_masters_in, main_step, is_released, sched_step, History, live_state, ◌||◌, ◌&&◌}
 use Rattle.rm_types.specs.declared.containers.Cause.TheVariants as causes
+use Rattle.rm_model.specs.Containers.{is_earlier}
 use Rattle.rm_tables.specs.declared.events.SchedEvent.TheVariants as scheds
+use Rattle.rm_tables.specs.Missing.{is_at_disposal_in}
 use Rattle.rm_invariant.specs.nodes.Book.{All}
 use Rattle.rm_invariant.proofs.nodes.Holds.{all_append, all_filter, all_map, all_passing}
 use Rattle.rm_invariant.proofs.nodes.Lists.{once_has}
 use Rattle.rm_invariant.proofs.masters.LeavingEvents.{same_living}
 use Rattle.rm_invariant.specs.events.Outcomes.{Outcome}
 use Rattle.rm_invariant.specs.Core.{CoreInvariant, PreservesCore}
-use Rattle.rm_invariant.specs.messages.Released.{IsOnWay, ReleasesOnWay, is_release_of}
-use Rattle.rm_invariant.proofs.messages.Marked.{all_both, all_found, all_later, step_on_way}
+use Rattle.rm_invariant.specs.messages.Released.{IsOnWay, ReleasesOnWay, is_release_of, keeps_in}
+use Rattle.rm_invariant.proofs.messages.Marked.{all_both, all_found, all_later, step_on_way, at_same}
 use Rattle.rm_invariant.proofs.messages.Shapes.{QueueBy, book_of, main_shape}
 use Rattle.rm_invariant.proofs.events.Entering.{all_weaker}
 use Rattle.rm_invariant.specs.events.SchedOutcomes.{SchedOutcome}
@@ -89,8 +91,8 @@ module _ (h : History) (t : Tables) (rest : List SchedEvent) (on : All (IsOnWay 
   others_leave list e done (outcomes.grants name row found) = record { book = _; is = refl; sched = refl; tree = refl; on = all_append On h.book _ on (granted_new _) }
 
 -- an event that is no release isn't missed
-rest_on : (apps : List AppRecord) (e : SchedEvent) (rest : List SchedEvent) → ((id : ContainerId) → is_release_of id e ≡ false) → (book : List Row) → All (IsOnWay apps (e ∷ rest)) book → All (IsOnWay apps rest) book
-rest_on apps e rest none book on = all_weaker (IsOnWay apps (e ∷ rest)) (IsOnWay apps rest) (λ row h marked. ((let apart = none row.id in let x = (h marked).0 in rw apart at x), (h marked).1)) book on
+rest_on : (apps : List AppRecord) (e : SchedEvent) (rest : List SchedEvent) → ((keep : Bool) (id : ContainerId) → is_release_of keep id e ≡ false) → (book : List Row) → All (IsOnWay apps (e ∷ rest)) book → All (IsOnWay apps rest) book
+rest_on apps e rest none book on = all_weaker (IsOnWay apps (e ∷ rest)) (IsOnWay apps rest) (λ row h marked fresh. ((let apart = none (keeps_in apps row.id) row.id in let x = (h marked fresh).0 in rw apart at x), (h marked fresh).1)) book on
 
 module _ (settings : Settings) (h : History) (t : Tables) (w : CoreInvariant settings h t) (rest : List SchedEvent) where
   -- a release: what it names, lives and is of its attempt leaves
@@ -99,17 +101,19 @@ module _ (settings : Settings) (h : History) (t : Tables) (w : CoreInvariant set
     given_back = once (filter (is_released attempt t) list)
 
     stays : (row : Row) → (is_living h.book row.id ≡ true) × IsOnWay t.tree.apps (scheds.Release attempt list ∷ rest) row → has_container given_back row.id ≡ false → IsOnWay t.tree.apps rest row
-    stays row h_row left marked = ((by (is_attempt row.id.attempt attempt) refl (has_container list row.id) refl (h_row.1 marked).0), no_master)
+    stays row h_row left marked fresh = ((by (is_attempt row.id.attempt attempt || (keeps_in t.tree.apps row.id && is_earlier row.id.attempt attempt)) refl (has_container list row.id) refl (h_row.1 marked fresh).0), no_master)
       where
         no_master : is_masters_in t.tree.apps row.id ≡ false
-        no_master = (h_row.1 marked).1
+        no_master = (h_row.1 marked fresh).1
 
         in_book : has_row t.book row.id ≡ true
         in_book = same_living row.id t.book.rows h.book w.agrees.rows ∙ h_row.0
 
-        by : (a : Bool) → is_attempt row.id.attempt attempt ≡ a → (b : Bool) → has_container list row.id ≡ b → list_any (is_release_of row.id) (scheds.Release attempt list ∷ rest) ≡ true → list_any (is_release_of row.id) rest ≡ true
+        by : (a : Bool) → (is_attempt row.id.attempt attempt || (keeps_in t.tree.apps row.id && is_earlier row.id.attempt attempt)) ≡ a → (b : Bool) → has_container list row.id ≡ b
+            → list_any (is_release_of (keeps_in t.tree.apps row.id) row.id) (scheds.Release attempt list ∷ rest) ≡ true → list_any (is_release_of (keeps_in t.tree.apps row.id) row.id) rest ≡ true
         by true e true f some =
-            let released : is_released attempt t row.id ≡ true = rw (in_book, e, no_master) refl in
+            let at : is_at_disposal_in t.tree.apps attempt row.id ≡ true = sym (at_same t.tree.apps attempt row.id) ∙ e in
+            let released : is_released attempt t row.id ≡ true = rw (in_book, at, no_master) refl in
             absurd (let x : false ≡ true = sym left ∙ once_has (filter (is_released attempt t) list) row.id (passes_among (is_released attempt t) list row.id f released) in false≢true x)
         by true e false f some = rw (e, f) at some
         by false e b f some = rw e at some
@@ -140,12 +144,12 @@ module _ (settings : Settings) (h : History) (t : Tables) (w : CoreInvariant set
         not_true true x = absurd (false≢true x)
         not_true false x = refl
 
-  other : (e : SchedEvent) → ((id : ContainerId) → is_release_of id e ≡ false) → (list : List ContainerId) → All (IsOnWay t.tree.apps (e ∷ rest)) h.book → LeavesOnWay h t rest (sched_step e list t)
+  other : (e : SchedEvent) → ((keep : Bool) (id : ContainerId) → is_release_of keep id e ≡ false) → (list : List ContainerId) → All (IsOnWay t.tree.apps (e ∷ rest)) h.book → LeavesOnWay h t rest (sched_step e list t)
   other e none list on = others_leave h t rest (rest_on t.tree.apps e rest none h.book on) list e (sched_step e list t) (sched_outcome t list e)
 
   step_leaves : (e : SchedEvent) (list : List ContainerId) → All (IsOnWay t.tree.apps (e ∷ rest)) h.book → LeavesOnWay h t rest (sched_step e list t)
   step_leaves (scheds.Release attempt released) list on = released_by_list attempt released on (given_back attempt released on) refl
-  step_leaves e list on = other e (λ c. refl) list on
+  step_leaves e list on = other e (λ keep c. refl) list on
 
   pub sched_on_way : ReleasesOnWay h t → (e : SchedEvent) → t.sched ≡ e ∷ rest → (list : List ContainerId) (s : PreservesCore settings h t (sched_worked (sched_step e list t))) → ReleasesOnWay s.next (sched_worked (sched_step e list t)).1
   sched_on_way on e front list s =

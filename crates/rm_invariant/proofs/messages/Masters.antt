@@ -1,15 +1,15 @@
 -- A master is answered, as whole steps that keep all that holds of an open life: it registers, it says that it finishes, it allocates.
-use Rattle.rm_invariant.proofs.Common.{◌≡◌, ℕ, suc, ◌+◌, List, [], ◌∷◌, ◌++◌, Bool, true, false, ◌&&◌, ◌||◌, not, Option, None, Some, is_none, map, refl, sym, ◌∙◌, ap, subst, arith, if◌then◌else◌, list_any, nat_tests, Ask, Closing, Grant, Served, AttemptId, ContainerId, MasterAsk, Register, Finish, Allocate, Reply, Settings, has_registered, is_live, is_registered, released_by, is_new_to_master, life_after_master, master_reply, register_reply, row_allocated, untold_rows, judged_node, LifeState, MasterState, Row, Scene, Dialogue, Tables, row_of, dialogue_begun, with_answer, with_text, without_closings, PlainDialogue, bare_dialogue, plain_dialogue, RefinesLife, lives_by, after_master, allocated_with, is_new_to, registered, release_events, said, goes_on, spoken_by, IsAsk, History, abstract_life, abstract_scene}
+use Rattle.rm_invariant.proofs.Common.{◌≡◌, ℕ, suc, ◌+◌, List, [], ◌∷◌, ◌++◌, Bool, true, false, ◌&&◌, ◌||◌, not, Option, None, Some, is_none, map, refl, sym, ◌∙◌, ap, subst, arith, if◌then◌else◌, list_any, nat_tests, Ask, Grant, Served, AttemptId, ContainerId, MasterAsk, Register, Finish, Allocate, Reply, Settings, has_registered, is_live, is_registered, released_by, is_new_to_master, life_after_master, master_reply, register_reply, row_allocated, untold_rows, judged_node, LifeState, MasterState, Row, Scene, Dialogue, Tables, row_of, dialogue_begun, with_answer, with_text, without_closings, PlainDialogue, bare_dialogue, plain_dialogue, RefinesLife, lives_by, after_master, allocated_with, is_new_to, registered, release_events, said, goes_on, spoken_by, IsAsk, History, abstract_life, abstract_scene, Closing}
 use Rattle.std.proofs.Common.{is_some}
 use Rattle.std.specs.Prelude.{option_map, ◌==◌, All}
 use Rattle.std.proofs.lemmas.Bool.{eqb-true}
 use Rattle.rm_types.specs.declared.messages.Message.TheVariants as messages
 use Rattle.rm_types.specs.declared.messages.Sender.TheVariants as senders
-use Rattle.rm_types.specs.declared.replies.Reply.TheVariants.{MasterRegistered, Already, Gone, Resync, TooLarge, Full, Allocated, NotRegistered, Finishing, Finished}
+use Rattle.rm_types.specs.declared.replies.Reply.TheVariants.{MasterRegistered, Took, Already, Gone, Resync, TooLarge, Full, Allocated, NotRegistered, Finishing, Finished}
 use Rattle.rm_types.specs.Resources.{fits}
 use Rattle.rm_model.specs.Attempts.{is_finishing, is_last, master_of}
-use Rattle.rm_model.specs.Facts.{kept_end}
-use Rattle.rm_model.specs.MasterReplies.{allocate_reply, allocated_reply, allocates, finish_reply, finished_issued, has_too_many, outbox_of, registers, with_asks}
+use Rattle.rm_model.specs.Facts.{keeps, kept_end, kept_record}
+use Rattle.rm_model.specs.MasterReplies.{allocate_reply, allocated_reply, allocates, earlier_rows, finish_reply, finished_issued, grant_of, has_too_many, late_rows, new_grants, outbox_of, registers, row_kept, takes_over, with_asks}
 use Rattle.rm_master.proofs.Replies.{Lives, lives_here, none_lives, row_lives}
 use Rattle.rm_master.proofs.Same.{goes_alike, master_same}
 use Rattle.rm_invariant.specs.messages.Ranges.{IsMasterAsk}
@@ -22,10 +22,12 @@ use Rattle.rm_invariant.specs.events.Refines.{Refines}
 use Rattle.rm_invariant.specs.Core.{Nothing, CoreInvariant, PreservesCore}
 use Rattle.rm_invariant.proofs.events.KeptMoves.{posted_good}
 use Rattle.rm_invariant.proofs.events.Leaving.{stepped_whole}
+use Rattle.rm_refinement.specs.Services.{AgreesAround}
 use Rattle.rm_invariant.specs.messages.Clients.{FinishesRefine}
 use Rattle.rm_invariant.proofs.messages.Answered.{if_open, still_whole}
-use Rattle.rm_invariant.proofs.messages.Changes.{rows_hold, same_on}
+use Rattle.rm_invariant.proofs.messages.Changes.{any_changed, rows_hold, same_on}
 use Rattle.rm_invariant.proofs.messages.Life.{shows_life}
+use Rattle.rm_invariant.specs.events.Here.{astray_at}
 
 -- no ask in its range is for a master's container
 ordinary : (asks : List Ask) → All IsAsk asks → AllOrdinary asks
@@ -63,12 +65,12 @@ not_live : (settings : Settings) (m : Scene) (attempt : AttemptId) (id : ℕ) (a
 not_live settings m attempt id asks reply None live is = is
 not_live settings m attempt id asks reply (Some master) live is = rw live at is
 
-module _ (settings : Settings) (h : History) (t : Tables) (w : CoreInvariant settings h t) (set : settings ≡ t.settings) (finishes : FinishesRefine h t) (attempt : AttemptId) where
+module _ (settings : Settings) (h : History) (t : Tables) (w : CoreInvariant settings h t) (set : settings ≡ t.settings) (finishes : FinishesRefine h t) (around : AgreesAround (abstract_scene h t) t) (attempt : AttemptId) where
   abbrev now : Scene
   now = abstract_scene h t
 
   shows : RefinesLife now t
-  shows = shows_life settings h t w finishes
+  shows = shows_life settings h t w finishes around
 
   -- what a master's message comes to
   abbrev Comes : MasterAsk → Reply → Type 0
@@ -93,14 +95,45 @@ module _ (settings : Settings) (h : History) (t : Tables) (w : CoreInvariant set
 
   joins : is_live now attempt ≡ true → MasterRegistered ≡ register_reply now attempt → Comes Register MasterRegistered
   joins live is =
-      stepped_whole settings h t (Served senders.Master (messages.Master attempt Register) MasterRegistered) (registered attempt MasterRegistered t) (registers now attempt)
-      (record { next = _; joins = register_live_joins settings h t w.keeps w.marks w.sound attempt live (dialogue_begun MasterRegistered) (is ∙ sym (if_open t.is_open (register_reply now attempt) _ w.keeps.is_open)) }) refl w.sound
+      stepped_whole settings h t (Served senders.Master (messages.Master attempt Register) MasterRegistered) (registered attempt MasterRegistered t) (registers now attempt MasterRegistered) w.keeps refl refl
+      (record { next = _; joins = register_live_joins settings h t w.keeps w.marks w.sound attempt live (dialogue_begun MasterRegistered t.book.added) MasterRegistered h.book (is ∙ sym (if_open t.is_open (register_reply now attempt) _ w.keeps.is_open)) refl (λ test. refl) }) refl w.sound
       (agrees_after Register MasterRegistered is) w.nodes (record { apart = w.book.apart; rows = w.book.rows; left = w.book.left; launches = w.book.launches })
+
+  -- and has containers from earlier attempts
+  module _ (kept : List Grant) where
+    abbrev change : Row → Row
+    change = row_kept (map (λ one. one.id) kept)
+
+    any_same : (test : ContainerId → Bool) → list_any (λ row. test row.id) (map change h.book) ≡ list_any (λ row. test row.id) h.book
+    any_same test = any_changed change (λ row. refl) (λ row. refl) (λ id node. test id) h.book
+
+    some_joins : is_live now attempt ≡ true → Took kept ≡ register_reply now attempt → PreservesContainersTo settings h t (Served senders.Master (messages.Master attempt Register) (Took kept), registered attempt (Took kept) t)
+    some_joins live is =
+        let j = register_live_joins settings h t w.keeps w.marks w.sound attempt live (dialogue_begun (Took kept) t.book.added) (Took kept) (map change h.book) (is ∙ sym (if_open t.is_open (register_reply now attempt) _ w.keeps.is_open)) refl any_same in
+        record {
+          next = record h { masters = record h.masters { registered = h.masters.registered ++ record { attempt = attempt; last_id = 0; last_reply = Took kept; finishing = None } ∷ [] }; book = map change h.book };
+          joins =
+              record {
+                step = record { lawful = j.step.lawful; same = j.step.same; keeps = record { is_open = j.step.keeps.is_open; recorded = j.step.keeps.recorded; all = j.step.keeps.all } };
+                marks = j.marks;
+              };
+        }
+
+    hands_over : is_live now attempt ≡ true → Took kept ≡ register_reply now attempt → Comes Register (Took kept)
+    hands_over live is =
+        stepped_whole settings h t (Served senders.Master (messages.Master attempt Register) (Took kept)) (registered attempt (Took kept) t) (takes_over now attempt kept) w.keeps refl refl (some_joins live is) refl w.sound
+        (agrees_after Register (Took kept) is)
+        (λ q. subst (λ (on : List ContainerId). NodeInvariant (astray_at settings h t) (judged_node h.nodes q) (events_of q t.sched) on) (sym (same_on change (λ row. refl) (λ row. refl) h.book q)) (w.nodes q))
+        (let holds = rows_hold change (λ row. refl) (λ row. refl) (abstract_life h t) Nothing w.book in record { apart = holds.apart; rows = holds.rows; left = holds.left; launches = holds.launches })
 
   register_by : (reply : Reply) → reply ≡ register_reply now attempt → (b : Bool) → is_live now attempt ≡ b → (c : Bool) → has_registered now attempt ≡ c → Comes Register reply
   register_by reply is false live c has = comes_by Register reply Gone (rw live at is) (quiet Register Gone (rw live refl) refl refl)
   register_by reply is true live true has = comes_by Register reply Already (rw (live, has) at is) (quiet Register Already (rw (live, has) refl) refl refl)
-  register_by reply is true live false has = comes_by Register reply MasterRegistered (rw (live, has) at is) (joins live (rw (live, has) refl))
+  register_by reply is true live false has = by_keep (keeps (kept_record now attempt.app)) refl (rw (live, has) at is)
+    where
+      by_keep : (k : Bool) → keeps (kept_record now attempt.app) ≡ k → reply ≡ (if k then Took (map grant_of (earlier_rows now attempt)) else MasterRegistered) → Comes Register reply
+      by_keep true e so = comes_by Register reply (Took (map grant_of (earlier_rows now attempt))) so (hands_over (map grant_of (earlier_rows now attempt)) live (rw (live, has, e) refl))
+      by_keep false e so = comes_by Register reply MasterRegistered so (joins live (rw (live, has, e) refl))
 
   -- A MASTER FINISHES
 
@@ -110,7 +143,7 @@ module _ (settings : Settings) (h : History) (t : Tables) (w : CoreInvariant set
         let live : is_live now attempt ≡ true = live_by now attempt registers_so in
         let agrees = agrees_after (Finish text) Finishing is in
         subst (λ (next : Tables). PreservesCore settings h t (Served senders.Master (messages.Master attempt (Finish text)) Finishing, next)) (rw goes refl)
-        (stepped_whole settings h t (Served senders.Master (messages.Master attempt (Finish text)) Finishing) (said attempt text t) (life_after_master now attempt (Finish text) Finishing)
+        (stepped_whole settings h t (Served senders.Master (messages.Master attempt (Finish text)) Finishing) (said attempt text t) (life_after_master now attempt (Finish text) Finishing) w.keeps refl refl
         (record { next = _; joins = finish_live_joins settings h t w.keeps w.marks w.sound attempt live (with_text text) text (is ∙ sym (if_open t.is_open (finish_reply now attempt) _ w.keeps.is_open)) registers_so (has_by now attempt registers_so) }) (rw w.keeps.recorded refl) w.sound
         (subst (λ (next : Tables). Refines (life_after_master now attempt (Finish text) Finishing) next) (rw goes refl) agrees) (rw registers_so w.nodes) (rw registers_so (record { apart = w.book.apart; rows = w.book.rows; left = w.book.left; launches = w.book.launches })))
 
@@ -146,13 +179,20 @@ module _ (settings : Settings) (h : History) (t : Tables) (w : CoreInvariant set
 
     -- the reply of one that is taken
     abbrev taken : Reply
-    taken = allocated_reply now attempt id
+    taken = allocated_reply settings now attempt id
 
     abbrev released : List ContainerId
     released = released_by now (record { attempt = attempt; list = release })
 
-    abbrev told : List ContainerId
-    told = map (λ (row : Row). row.id) (untold_rows now attempt)
+    -- what was granted to the attempt, and what came late to it
+    abbrev granted_ids : List ContainerId
+    granted_ids = map (λ (row : Row). row.id) (new_grants now attempt)
+
+    abbrev late_ids : List ContainerId
+    late_ids = map (λ (row : Row). row.id) (late_rows now attempt)
+
+    abbrev row_served : Row → Row
+    row_served = row_allocated granted_ids late_ids released
 
     -- the life after it
     abbrev life : LifeState
@@ -163,11 +203,11 @@ module _ (settings : Settings) (h : History) (t : Tables) (w : CoreInvariant set
 
     takes_joins : taken ≡ master_reply settings now attempt ask → is_new_to_master now attempt id ≡ true → PreservesContainersTo settings h t (Served senders.Master (messages.Master attempt ask) taken, tables)
     takes_joins is new =
-        let grants : List Grant = map (λ (row : Row). record { id = row.id; node = row.node; size = row.size }) (untold_rows now attempt) in
-        let j = allocated_joins settings h t w.keeps w.marks attempt id asks release ranges (id + 1) grants (outbox_of now attempt) (with_answer (id + 1) taken) (without_closings attempt) (release_events attempt release) (releases attempt release)
+        let grants : List Grant = map grant_of (untold_rows settings now attempt) in
+        let j = allocated_joins settings h t w.keeps w.marks attempt id asks release ranges (id + 1) grants (outbox_of now attempt) (with_answer (id + 1) taken t.book.added) (without_closings attempt) (release_events attempt release) (releases attempt release)
         (is ∙ sym (if_open t.is_open (master_reply settings now attempt ask) _ w.keeps.is_open)) new in
         record {
-          next = allocating settings h t w.keeps w.marks attempt id asks release ranges (id + 1) grants (outbox_of now attempt) (with_answer (id + 1) taken) (without_closings attempt) (release_events attempt release) (releases attempt release);
+          next = allocating settings h t w.keeps w.marks attempt id asks release ranges (id + 1) grants (outbox_of now attempt) (with_answer (id + 1) taken t.book.added) (without_closings attempt) (release_events attempt release) (releases attempt release);
           joins =
               record {
                 step = record { lawful = j.step.lawful; same = j.step.same; keeps = record { is_open = j.step.keeps.is_open; recorded = j.step.keeps.recorded; all = j.step.keeps.all } };
@@ -175,21 +215,21 @@ module _ (settings : Settings) (h : History) (t : Tables) (w : CoreInvariant set
               };
         }
 
-    takes_good : NodesInvariant h.nodes (map (row_allocated told released) h.book) (t.sched ++ release_events attempt release)
+    takes_good : NodesInvariant (astray_at settings h t) h.nodes (map row_served h.book) (t.sched ++ release_events attempt release)
     takes_good = λ q.
-        subst (λ (on : List ContainerId). NodeInvariant (judged_node h.nodes q) (events_of q (t.sched ++ release_events attempt release)) on) (sym (same_on (row_allocated told released) (λ row. refl) (λ row. refl) h.book q))
-        (posted_good h t.sched (release_events attempt release) (of_no_node attempt release) w.nodes q)
+        subst (λ (on : List ContainerId). NodeInvariant (astray_at settings h t) (judged_node h.nodes q) (events_of q (t.sched ++ release_events attempt release)) on) (sym (same_on row_served (λ row. refl) (λ row. refl) h.book q))
+        (posted_good (astray_at settings h t) h t.sched (release_events attempt release) (of_no_node attempt release) w.nodes q)
 
     takes_holds : BookInvariant life Nothing
     takes_holds =
-        let holds = rows_hold (row_allocated told released) (λ row. refl) (λ row. refl) (abstract_life h t) Nothing w.book in
+        let holds = rows_hold row_served (λ row. refl) (λ row. refl) (abstract_life h t) Nothing w.book in
         record { apart = holds.apart; rows = holds.rows; left = holds.left; launches = holds.launches }
 
     takes : taken ≡ master_reply settings now attempt ask → is_new_to_master now attempt id ≡ true → is_new_to id (spoken_by attempt (row_of t.rows attempt.app)) ≡ true → Comes ask taken
     takes is new new_in =
         let agrees = agrees_after ask taken is in
         subst (λ (next : Tables). PreservesCore settings h t (Served senders.Master (messages.Master attempt ask) taken, next)) (rw new_in refl)
-        (stepped_whole settings h t (Served senders.Master (messages.Master attempt ask) taken) tables life (takes_joins is new) (rw (w.keeps.recorded, new) refl) w.sound
+        (stepped_whole settings h t (Served senders.Master (messages.Master attempt ask) taken) tables life w.keeps refl refl (takes_joins is new) (rw (w.keeps.recorded, new) refl) w.sound
         (rw (new, new_in) at agrees) takes_good takes_holds)
 
     -- one that isn't new changes nothing
@@ -221,12 +261,12 @@ module _ (settings : Settings) (h : History) (t : Tables) (w : CoreInvariant set
         not_again : id ≡ master.last_id → (id + 1 == master.last_id) ≡ false
         not_again e = grind (arith, nat_tests)
 
-        by_size : (id == master.last_id) ≡ true → (a b : Bool) → reply ≡ (if a then TooLarge else (if b then Full else allocated_reply now attempt master.last_id)) → Comes ask reply
+        by_size : (id == master.last_id) ≡ true → (a b : Bool) → reply ≡ (if a then TooLarge else (if b then Full else allocated_reply settings now attempt master.last_id)) → Comes ask reply
         by_size new true b e = comes_by ask reply TooLarge e (quiet ask TooLarge (sym e ∙ is) refl refl)
         by_size new false true e = comes_by ask reply Full e (quiet ask Full (sym e ∙ is) refl refl)
         by_size new false false e =
             let n : id ≡ master.last_id = eqb-true id master.last_id new in
-            let so : reply ≡ taken = e ∙ ap (allocated_reply now attempt) (sym n) in
+            let so : reply ≡ taken = e ∙ ap (allocated_reply settings now attempt) (sym n) in
             comes_by ask reply taken so (takes (sym so ∙ is) (new_told ∙ new) (new_in ∙ new))
 
         by_text : (f : Option (List ℕ)) → is_registered now attempt ≡ is_none f → (new : Bool) → (id == master.last_id) ≡ new → Comes ask reply

@@ -29,7 +29,7 @@ pub record MessageShape (t : Tables) (message : Message) (next : Tables) : Type 
   pub begins : list_any is_epoch_start more ≡ false
   pub events : List SchedEvent
   pub sched : next.sched ≡ t.sched ++ events
-  pub rest : next ≡ record t { rows = next.rows; nodes = next.nodes; book = next.book; asks = next.asks; going = next.going; given = next.given; clock = next.clock; main = next.main; sched = next.sched }
+  pub rest : next ≡ record t { rows = next.rows; nodes = next.nodes; book = next.book; asks = next.asks; going = next.going; given = next.given; clock = next.clock; main = next.main; sched = next.sched; pending = next.pending }
 
 module _ (t : Tables) where
   main_same : t.main ≡ t.main ++ []

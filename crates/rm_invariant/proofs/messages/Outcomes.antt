@@ -32,6 +32,7 @@ module _ (t : Tables) where
 
   of_master : (attempt : AttemptId) (ask : MasterAsk) (reply : Reply) → MessageOutcome t (messages.Master attempt ask) reply (after_master attempt ask reply t)
   of_master attempt masters.Register replies.MasterRegistered = comes.registers attempt replies.MasterRegistered refl
+  of_master attempt masters.Register (replies.Took kept) = comes.registers attempt (replies.Took kept) refl
   of_master attempt (masters.Finish text) replies.Finishing = by (goes_on (spoken_by attempt (row_of t.rows attempt.app))) refl
     where
       by : (b : Bool) → goes_on (spoken_by attempt (row_of t.rows attempt.app)) ≡ b → MessageOutcome t (messages.Master attempt (masters.Finish text)) replies.Finishing (after_master attempt (masters.Finish text) replies.Finishing t)

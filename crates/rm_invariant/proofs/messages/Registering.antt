@@ -1,6 +1,6 @@
 -- A node registers, as a whole step that keeps all that holds of an open life: for the first time, with a later turn, and with one that isn't
 -- later, which changes nothing.
-use Rattle.rm_invariant.proofs.Common.{◌≡◌, ℕ, ◌<◌, List, [], ◌∷◌, ◌++◌, Bool, true, false, Option, None, Some, refl, sym, ◌∙◌, ap, subst, arith, nat_tests, Held, Served, NodeAsk, Reply, Resource, Settings, text_itself, new_node, node_reply, node_after_registration, tidied, LifeState, Registered, Registration, Scene, Waiting, SchedEvent, NodeRow, Tables, new_node_row, registered_node_row, with_node, after_node, registered_by, OnlyNodesOffer, PlainNode, bare_node, plain_node, tidied_same, with_same, History, abstract_life, abstract_scene}
+use Rattle.rm_invariant.proofs.Common.{◌≡◌, ℕ, ◌<◌, List, [], ◌∷◌, ◌++◌, Bool, true, false, Option, None, Some, refl, sym, ◌∙◌, ap, subst, arith, nat_tests, Held, Served, NodeAsk, Reply, Resource, Settings, text_itself, new_node, node_reply, node_after_registration, tidied, LifeState, Registered, Registration, Scene, Waiting, SchedEvent, NodeRow, Tables, new_node_row, registered_node_row, with_node, after_node, registered_by, OnlyNodesOffer, PlainNode, bare_node, plain_node, tidied_same, with_same, History, abstract_life, abstract_scene, ContainerId}
 use Rattle.std.specs.Prelude.{nat_lt, option_map}
 use Rattle.rm_types.specs.declared.messages.Message.TheVariants as messages
 use Rattle.rm_types.specs.declared.messages.NodeAsk.TheVariants as asks
@@ -18,16 +18,17 @@ use Rattle.rm_invariant.specs.Core.{Nothing, CoreInvariant, PreservesCore}
 use Rattle.rm_invariant.proofs.events.Leaving.{tidied_holds}
 use Rattle.rm_invariant.proofs.messages.Answered.{changed_whole, still_whole}
 use Rattle.rm_invariant.proofs.messages.Changes.{changed_holds, joined_holds, same_held}
+use Rattle.rm_invariant.specs.events.Here.{astray_at}
 
 -- a node that registers for the first time is good, whatever its turn
-first_good : (m : Scene) (sched : List SchedEvent) (n : List ℕ) (last : Registration) (reply : Reply) → node_told m.life.nodes n ≡ None → NodesInvariant m.life.nodes m.life.book sched
-    → NodesInvariant (tidied (record m.life { nodes = m.life.nodes ++ new_node n last reply ∷ [] })).nodes m.life.book (sched ++ scheds.NodeAdded n last.turn ∷ [])
-first_good m sched n last reply none good =
+first_good : (astray : ContainerId → Bool) (m : Scene) (sched : List SchedEvent) (n : List ℕ) (last : Registration) (reply : Reply) → node_told m.life.nodes n ≡ None → NodesInvariant astray m.life.nodes m.life.book sched
+    → NodesInvariant astray (tidied (record m.life { nodes = m.life.nodes ++ new_node n last reply ∷ [] })).nodes m.life.book (sched ++ scheds.NodeAdded n last.turn ∷ [])
+first_good astray m sched n last reply none good =
     let waits : is_idle_by Waiting last.turn [] (Registered last.turn) ≡ false = grind (arith, nat_tests) in
-    let first : RegisteredInvariant (node_view (new_node n last reply) (scheds.NodeAdded n last.turn ∷ []) []) =
-    record { half = []; paired = (refl, refl); gone = refl; turns = grind (arith, nat_tests); same = rw waits refl } in
-    still_tidy (m.life.nodes ++ new_node n last reply ∷ []) m.life.book (sched ++ scheds.NodeAdded n last.turn ∷ [])
-    (pushed m.life.nodes m.life.book sched (scheds.NodeAdded n last.turn ∷ []) n (new_node n last reply) refl none (λ q apart. one_other q (scheds.NodeAdded n last.turn) apart)
+    let first : RegisteredInvariant (node_view astray (new_node n last reply) (scheds.NodeAdded n last.turn ∷ []) []) =
+    record { half = []; paired = (refl, refl); gone = refl; clear = refl; turns = grind (arith, nat_tests); same = rw waits refl } in
+    still_tidy astray (m.life.nodes ++ new_node n last reply ∷ []) m.life.book (sched ++ scheds.NodeAdded n last.turn ∷ [])
+    (pushed astray m.life.nodes m.life.book sched (scheds.NodeAdded n last.turn ∷ []) n (new_node n last reply) refl none (λ q apart. one_other q (scheds.NodeAdded n last.turn) apart)
     (one_own n (scheds.NodeAdded n last.turn) (text_itself n)) first good)
 
 module _ (settings : Settings) (h : History) (t : Tables) (w : CoreInvariant settings h t) (name : List ℕ) (turn : ℕ) (capability : Resource) (running : List Held) where
@@ -50,7 +51,7 @@ module _ (settings : Settings) (h : History) (t : Tables) (w : CoreInvariant set
       (record { adds = λ q. refl; queueings = λ q. refl; removals = λ c. refl }) (same_held h.book) w.agrees.rows
       (tidied_same t.book (t.nodes ++ (name, new_node_row turn capability running told_turn) ∷ []) h.book (h.nodes ++ new_node name last_said told_turn ∷ [])
       (added_same t.book name (new_node_row turn capability running told_turn) (new_node name last_said told_turn) t.nodes h.nodes refl w.agrees.nodes in_tables told (rw (offer name in_tables) refl)))
-      (first_good (abstract_scene h t) t.sched name last_said told_turn told w.nodes)
+      (first_good (astray_at settings h t) (abstract_scene h t) t.sched name last_said told_turn told w.nodes)
       (let holds = tidied_holds joined Nothing (joined_holds (abstract_life h t) (new_node name last_said told_turn) Nothing refl w.book) in
       record { apart = holds.apart; rows = holds.rows; left = holds.left; launches = holds.launches })
 
@@ -67,7 +68,7 @@ module _ (settings : Settings) (h : History) (t : Tables) (w : CoreInvariant set
       (tidied_same t.book (with_node (registered_node_row turn capability running told_turn) name t.nodes) h.book (with_told (node_after_registration last_said told_turn) name h.nodes)
       (with_same t.book name (registered_node_row turn capability running told_turn) (node_after_registration last_said told_turn) t.nodes h.nodes (λ one. refl) w.agrees.nodes
       (λ r o a b alike. ap (λ (x : PlainNode). record x { last = last_said; phase = Waiting; last_id = 0; last_reply = told_turn }) alike)))
-      (register_good (abstract_scene h t) t.sched name last_said told_turn (Some node) told (omega (arith, newer)) (newer_than node told newer) w.nodes)
+      (register_good (astray_at settings h t) (abstract_scene h t) t.sched name last_said told_turn (Some node) told (omega (arith, newer)) (newer_than node told newer) w.nodes)
       (let holds = tidied_holds changed Nothing (changed_holds (abstract_life h t) (node_after_registration last_said told_turn) name Nothing (λ one. refl) (λ one. refl) (λ one l. l) w.book) in
       record { apart = holds.apart; rows = holds.rows; left = holds.left; launches = holds.launches }))
     where

@@ -7,20 +7,22 @@ use Rattle.rm_types.specs.declared.containers.Cause.TheVariants.{Gone}
 use Rattle.rm_book.specs.Books.{AreOnce}
 use Rattle.rm_book.proofs.TakenRows.{held_filter}
 use Rattle.rm_model.specs.Absorbing.{may_take, with_counted, with_taken}
-use Rattle.rm_model.specs.Containers.{judged_row}
+use Rattle.rm_model.specs.Containers.{is_pending, judged_row}
 use Rattle.rm_model.specs.State.{NodeState}
+use Rattle.rm_types.specs.declared.settings.Settings.{Settings}
 use Rattle.rm_sched.proofs.Absorbable.{once_more}
 use Rattle.rm_invariant.specs.nodes.Book.{All, LivingRowsAreApart, AreLaunches, BookInvariant, IsAbsorbed, BookRowInvariant}
 use Rattle.rm_invariant.proofs.nodes.Entries.{KeepsPlace, taken_place}
-use Rattle.rm_invariant.proofs.nodes.Holds.{all_append, all_map, leave_holds, lives_still}
+use Rattle.rm_invariant.proofs.nodes.Holds.{all_append, all_map, leave_holds, lives_still, living_granted}
 use Rattle.rm_invariant.proofs.nodes.Moved.{name_of, node_of-map}
 use Rattle.rm_invariant.proofs.masters.LeavingEvents.{lives_there}
+use Rattle.rm_invariant.proofs.masters.Tests.{and_right}
 
 -- TESTS
 
 -- WHAT IS TAKEN OF A REPORT
 
-module _ (m : Scene) (node : NodeState) where
+module _ (settings : Settings) (m : Scene) (node : NodeState) where
   -- it lives on the node, or an earlier life granted it
   abbrev pub IsOld : ContainerId → Type 0
   IsOld id = (lives_on m.life.book node.name id ≡ true) ⊎ (nat_lt id.epoch m.life.epoch ≡ true)
@@ -70,21 +72,21 @@ module _ (m : Scene) (node : NodeState) where
   abbrev pub WellTaken : List Held → Type 0
   WellTaken taken = All IsOldHeld taken × AreOnce taken
 
-  one_taken : (taken : List Held) (o : Option Held) → Counts o → WellTaken taken → WellTaken (with_counted m node taken o)
+  one_taken : (taken : List Held) (o : Option Held) → Counts o → WellTaken taken → WellTaken (with_counted settings m node taken o)
   one_taken taken None c well = well
-  one_taken taken (Some held) c well = by (may_take m node taken held) refl
+  one_taken taken (Some held) c well = by (may_take settings m node taken held) refl
     where
-      by : (b : Bool) → may_take m node taken held ≡ b → WellTaken (with_counted m node taken (Some held))
+      by : (b : Bool) → may_take settings m node taken held ≡ b → WellTaken (with_counted settings m node taken (Some held))
       by false e = rw e well
       by true e =
-          let none : is_held taken held.id ≡ false = not-true (is_held taken held.id) (and_first (not (is_held taken held.id)) _ e) in
+          let none : is_held taken held.id ≡ false = not-true (is_held taken held.id) (and_first (not (is_held taken held.id)) _ (and_right (not (is_pending settings m held.id)) _ e)) in
           rw e (all_append IsOldHeld taken (held ∷ []) well.0 (c, tt), once_more taken held well.1 none)
 
-  fold_taken : (running taken : List Held) → WellTaken taken → WellTaken (fold (λ taken held. with_counted m node taken (as_counted m node held)) taken running)
+  fold_taken : (running taken : List Held) → WellTaken taken → WellTaken (fold (λ taken held. with_counted settings m node taken (as_counted m node held)) taken running)
   fold_taken [] taken well = well
-  fold_taken (held ∷ running) taken well = fold_taken running (with_counted m node taken (as_counted m node held)) (one_taken taken (as_counted m node held) (counted held) well)
+  fold_taken (held ∷ running) taken well = fold_taken running (with_counted settings m node taken (as_counted m node held)) (one_taken taken (as_counted m node held) (counted held) well)
 
-  pub well_taken : WellTaken (taken_of m node)
+  pub well_taken : WellTaken (taken_of settings m node)
   well_taken = fold_taken node.last.running [] (tt, tt)
 
 -- ROWS APART
@@ -173,8 +175,8 @@ absorbed_now name nodes node there own = rw (node_of-map (absorbed_at name) (kee
 -- ALL FACTS OF THE BOOK
 
 -- the report of a node is absorbed: these are taken of it, and these leave
-module _ (m : Scene) (more : ContainerId → Type 0) (name : List ℕ) (node : NodeState) (there : judged_node m.life.nodes name ≡ Some node) (taken : List Held) (ended : List ContainerId)
-    (takes : taken ≡ taken_of m node) (living : All (λ id. is_living m.life.book id ≡ true) ended) (stay : All (λ held. has_container ended held.id ≡ false) taken)
+module _ (settings : Settings) (m : Scene) (more : ContainerId → Type 0) (name : List ℕ) (node : NodeState) (there : judged_node m.life.nodes name ≡ Some node) (taken : List Held) (ended : List ContainerId)
+    (takes : taken ≡ taken_of settings m node) (living : All (λ id. is_living m.life.book id ≡ true) ended) (stay : All (λ held. has_container ended held.id ≡ false) taken)
     (said : All (λ held. more held.id) taken) (before : BookInvariant m.life more) where
   abbrev left : LifeState
   left = leave m Gone ended
@@ -186,10 +188,10 @@ module _ (m : Scene) (more : ContainerId → Type 0) (name : List ℕ) (node : N
   entering = filter (λ held. not (is_living left.book held.id)) taken
 
   gone : BookInvariant left more
-  gone = leave_holds m Gone ended more living before
+  gone = leave_holds m Gone ended more (living_granted m.life more ended living before) before
 
-  well : WellTaken m node taken
-  well = subst (λ (list : List Held). WellTaken m node list) (sym takes) (well_taken m node)
+  well : WellTaken settings m node taken
+  well = subst (λ (list : List Held). WellTaken settings m node list) (sym takes) (well_taken settings m node)
 
   own_name : bytes_eq node.name name ≡ true
   own_name = name_of m.life.nodes name node there
@@ -202,7 +204,7 @@ module _ (m : Scene) (more : ContainerId → Type 0) (name : List ℕ) (node : N
       rw (place.0, place.1) moved
 
   -- what enters is of an earlier life
-  entered : (held : Held) → is_living left.book held.id ≡ false → has_container ended held.id ≡ false → IsOldHeld m node held → more held.id → BookRowInvariant now more (row_absorbed name held)
+  entered : (held : Held) → is_living left.book held.id ≡ false → has_container ended held.id ≡ false → IsOldHeld settings m node held → more held.id → BookRowInvariant now more (row_absorbed name held)
   entered held out stays (inl lives) says = absurd (false≢true (sym out ∙ lives_there left.book node.name held.id (lives_still ended m.life.book node.name held.id stays lives)))
   entered held out stays (inr old) says =
       let less : held.id.epoch < m.life.epoch = grind (arith, nat_tests) in (
@@ -212,7 +214,7 @@ module _ (m : Scene) (more : ContainerId → Type 0) (name : List ℕ) (node : N
         says,
       )
 
-  all_entered : (list : List Held) → All (IsOldHeld m node) list → All (λ held. has_container ended held.id ≡ false) list → All (λ held. more held.id) list
+  all_entered : (list : List Held) → All (IsOldHeld settings m node) list → All (λ held. has_container ended held.id ≡ false) list → All (λ held. more held.id) list
       → All (BookRowInvariant now more) (map (row_absorbed name) (filter (λ held. not (is_living left.book held.id)) list))
   all_entered [] old stays says = tt
   all_entered (held ∷ list) old stays says = by (is_living left.book held.id) refl (all_entered list old.1 stays.1 says.1)

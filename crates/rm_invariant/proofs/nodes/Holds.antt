@@ -98,9 +98,9 @@ launches_still list book node h =
     (λ id n l. lives_still list book node.name id (not-true (has_container list id) n) l) node.launches h
 
 -- ALL FACTS OF THE BOOK, for whatever cause
-pub leave_holds : (m : Scene) (cause : Cause) (list : List ContainerId) (more : ContainerId → Type 0) → All (λ id. is_living m.life.book id ≡ true) list → BookInvariant m.life more
+pub leave_holds : (m : Scene) (cause : Cause) (list : List ContainerId) (more : ContainerId → Type 0) → All (IsGranted m.life) list → BookInvariant m.life more
     → BookInvariant (leave m cause list) more
-leave_holds m cause list more living h =
+leave_holds m cause list more granted h =
     record {
       apart = apart_less list m.life.book h.apart;
       rows =
@@ -109,13 +109,15 @@ leave_holds m cause list more living h =
           let e = list_any-append (λ one. is_container one row.id) m.life.endings.left list in
           let f = not-true (has_container list row.id) n in
           (absorbed_still list m.life.nodes row.node k.0, k.1, λ epoch. e ∙ rw (k.2 epoch, f) refl, k.3)) m.life.book h.rows;
-      left =
-          all_append (IsGranted m.life) m.life.endings.left list h.left
-          (all_living (IsGranted m.life) m.life.book list (all_weaker m.life.book h.rows) living);
+      left = all_append (IsGranted m.life) m.life.endings.left list h.left granted;
       launches = all_map (AreLaunches m.life.book) (AreLaunches (filter (stays_without list) m.life.book)) (without_launches list) (launches_still list m.life.book) m.life.nodes h.launches;
     }
+
+-- what lives was granted
+pub living_granted : (life : LifeState) (more : ContainerId → Type 0) (list : List ContainerId) → All (λ id. is_living life.book id ≡ true) list → BookInvariant life more → All (IsGranted life) list
+living_granted life more list living h = all_living (IsGranted life) life.book list (all_weaker life.book h.rows) living
   where
-    all_weaker : (rows : List Row) → All (BookRowInvariant m.life more) rows → All (λ row. IsGranted m.life row.id) rows
+    all_weaker : (rows : List Row) → All (BookRowInvariant life more) rows → All (λ row. IsGranted life row.id) rows
     all_weaker [] k = tt
     all_weaker (row ∷ rows) k = (k.0.1, all_weaker rows k.1)
 

@@ -1,6 +1,7 @@
 -- Lists of containers: each once, and what is left of a list without them.
-use Rattle.rm_invariant.proofs.Common.{◌≡◌, ℕ, List, [], ◌∷◌, Bool, true, false, not, ◌||◌, filter, refl, sym, ◌∙◌, list_any, bytes_eq, false≢true, ContainerId, is_container, container_itself, same_container, Row, has_container, ids_on, lives_on, once}
+use Rattle.rm_invariant.proofs.Common.{◌≡◌, ℕ, List, [], ◌∷◌, Bool, true, false, not, ◌||◌, filter, refl, sym, ◌∙◌, list_any, bytes_eq, false≢true, ContainerId, is_container, container_itself, same_container, Row, has_container, ids_on, lives_on, once, ◌&&◌}
 use Rattle.rm_invariant.proofs.nodes.Views.{fewer}
+use Rattle.std.proofs.lemmas.Bool.{or_right}
 
 -- what is among those that go does not stay
 out_more : (gone on : List ContainerId) (x id : ContainerId) (b c : Bool) → has_container gone x ≡ b → is_container x id ≡ c → has_container gone id ≡ true
@@ -84,5 +85,38 @@ none_by on gone (x ∷ ids) all =
     left_by on x gone (has_container on x) refl (λ t. all x (let e = container_itself x in rw t (rw e refl))) in
     rw here (none_by on gone ids (λ y h. all y (passes_more (has_container on) y x ids (has_container on x) refl h)))
 
-pub none_left : (on ids : List ContainerId) → list_any (has_container (filter (λ y. not (has_container (once (filter (has_container on) ids)) y)) on)) ids ≡ false
-none_left on ids = none_by on (once (filter (has_container on) ids)) ids (λ x h. once_has (filter (has_container on) ids) x h)
+pub none_left : (goes : ContainerId → Bool) (on ids : List ContainerId) → ((id : ContainerId) → has_container on id ≡ true → goes id ≡ true)
+    → list_any (has_container (filter (λ y. not (has_container (once (filter goes ids)) y)) on)) ids ≡ false
+none_left goes on ids passes = none_by on (once (filter goes ids)) ids (λ x h. once_has (filter goes ids) x (more ids x h))
+  where
+    more : (ids : List ContainerId) (x : ContainerId) → has_container (filter (has_container on) ids) x ≡ true → has_container (filter goes ids) x ≡ true
+    more [] x h = h
+    more (y ∷ ids) x h = by (has_container on y) refl (is_container y x) refl (more ids x)
+      where
+        here : has_container on y ≡ true → has_container (filter goes (y ∷ ids)) x ≡ (is_container y x || has_container (filter goes ids) x)
+        here e = let p = passes y e in rw p refl
+
+        by : (b : Bool) → has_container on y ≡ b → (c : Bool) → is_container y x ≡ c → (has_container (filter (has_container on) ids) x ≡ true → has_container (filter goes ids) x ≡ true) → has_container (filter goes (y ∷ ids)) x ≡ true
+        by true e true f rest = here e ∙ rw f refl
+        by true e false f rest = here e ∙ rw f (rest (rw (e, f) at h))
+        by false e c f rest = passes_more goes x y ids (goes y) refl (rest (rw e at h))
+
+-- of a done list, those that pass a test go: then what passes a narrower one is among them
+passes_in : (goes : ContainerId → Bool) (ids : List ContainerId) (x : ContainerId) → goes x ≡ true → has_container ids x ≡ true → has_container (filter goes ids) x ≡ true
+passes_in goes [] x passes h = h
+passes_in goes (y ∷ ids) x passes h = by (is_container y x) refl (passes_in goes ids x passes)
+  where
+    by : (b : Bool) → is_container y x ≡ b → (has_container ids x ≡ true → has_container (filter goes ids) x ≡ true) → has_container (filter goes (y ∷ ids)) x ≡ true
+    by true e rest = let own : goes y ≡ true = rw (same_container y x e) passes in rw (own, e) refl
+    by false e rest = passes_more goes x y ids (goes y) refl (rest (rw e at h))
+
+none_beside : (p : ContainerId → Bool) (gone ids : List ContainerId) → ((x : ContainerId) → p x ≡ true → has_container ids x ≡ true → has_container gone x ≡ true) → list_any (λ id. p id && not (has_container gone id)) ids ≡ false
+none_beside p gone [] all = refl
+none_beside p gone (x ∷ ids) all = by (p x) refl (none_beside p gone ids (λ y passes h. all y passes (or_right (is_container x y) (has_container ids y) h)))
+  where
+    by : (b : Bool) → p x ≡ b → list_any (λ id. p id && not (has_container gone id)) ids ≡ false → list_any (λ id. p id && not (has_container gone id)) (x ∷ ids) ≡ false
+    by true e rest = let among : has_container gone x ≡ true = all x e (let i = container_itself x in rw i refl) in rw (e, among) rest
+    by false e rest = rw e rest
+
+pub none_but_listed : (p goes : ContainerId → Bool) → ((id : ContainerId) → p id ≡ true → goes id ≡ true) → (ids : List ContainerId) → list_any (λ id. p id && not (has_container (once (filter goes ids)) id)) ids ≡ false
+none_but_listed p goes narrower ids = none_beside p (once (filter goes ids)) ids (λ x passes h. once_has (filter goes ids) x (passes_in goes ids x (narrower x passes) h))

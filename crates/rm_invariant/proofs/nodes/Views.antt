@@ -17,6 +17,7 @@ added_quiet v node turn more e not_it a =
       half = [];
       paired = paired.1;
       gone = refl;
+      clear = refl;
       turns = grind (arith, nat_tests);
       same = same ∙ rw not_it refl;
     }
@@ -38,6 +39,7 @@ added_keeps v node turn more on e it a =
       half = [];
       paired = paired.1;
       gone = refl;
+      clear = refl;
       turns = grind (arith, nat_tests);
       same = rw (added_front v node turn more e it a) (rw idle refl);
     }
@@ -104,6 +106,7 @@ leaving_keeps v stays a =
       half = a.half;
       paired = a.paired;
       gone = none_fewer stays v.on a.half a.gone;
+      clear = a.clear;
       turns = a.turns;
       same =
           rw a.same
@@ -113,8 +116,8 @@ leaving_keeps v stays a =
 
 -- a done list is worked off: those of it that stand on the node leave
 pub done_keeps : (v : NodeView) (node : List ℕ) (list : List ContainerId) (more : List SchedEvent) (stays : ContainerId → Bool) → v.events ≡ NodeDone node list ∷ more
-    → list_any (has_container (filter stays v.on)) list ≡ false → RegisteredInvariant v → RegisteredInvariant (record (left_of stays v) { events = more })
-done_keeps v node list more stays e none a =
+    → list_any (has_container (filter stays v.on)) list ≡ false → list_any v.astray list ≡ false → RegisteredInvariant v → RegisteredInvariant (record (left_of stays v) { events = more })
+done_keeps v node list more stays e none clear a =
     let paired : UpdatesFollow (NodeDone node list ∷ more) a.half = rw e at a.paired in
     let turns : are_turns v.turn (pending (NodeDone node list ∷ more) a.half) ≡ true = rw e at a.turns in
     let same : v.undone ≡ without_idle (idle_in v) (pending more list) = rw e at a.same in
@@ -122,6 +125,7 @@ done_keeps v node list more stays e none a =
       half = list;
       paired = paired.1;
       gone = none;
+      clear = clear;
       turns = turns;
       same =
           rw same
@@ -129,11 +133,11 @@ done_keeps v node list more stays e none a =
           (stays_all (idle_in v) (is_idle_by v.phase v.turn (filter stays v.on)) (pending more list) (less_idle v.phase v.turn v.on stays)));
     }
 
--- a beat is at the front, and none of its done list stands on the node
+-- a beat is at the front, and none of its done list stands on the node or is astray
 pub update_front : (v : NodeView) (node : List ℕ) (more : List SchedEvent) → v.events ≡ NodeUpdate node ∷ more → RegisteredInvariant v
-    → (done : List ContainerId) × (v.undone ≡ Beat done ∷ pending more []) × (list_any (has_container v.on) done ≡ false)
+    → (done : List ContainerId) × (v.undone ≡ Beat done ∷ pending more []) × (list_any (has_container v.on) done ≡ false) × (list_any v.astray done ≡ false)
 update_front v node more e a =
-    let same : v.undone ≡ without_idle (idle_in v) (pending (NodeUpdate node ∷ more) a.half) = rw e at a.same in (a.half, same, a.gone)
+    let same : v.undone ≡ without_idle (idle_in v) (pending (NodeUpdate node ∷ more) a.half) = rw e at a.same in (a.half, same, a.gone, a.clear)
 
 -- a pass works it off; whatever then stands on the node
 pub update_keeps : (v : NodeView) (node : List ℕ) (more : List SchedEvent) (on : List ContainerId) → v.events ≡ NodeUpdate node ∷ more → RegisteredInvariant v
@@ -142,7 +146,7 @@ update_keeps v node more on e a =
     let paired : UpdatesFollow (NodeUpdate node ∷ more) a.half = rw e at a.paired in
     let turns : are_turns v.turn (pending (NodeUpdate node ∷ more) a.half) ≡ true = rw e at a.turns in
     let front = update_front v node more e a in
-    record { half = []; paired = paired; gone = refl; turns = turns; same = rw front.1 refl }
+    record { half = []; paired = paired; gone = refl; clear = refl; turns = turns; same = rw front.1 refl }
 
 -- an expiry of a node on which nothing stands is passed over
 pub lost_quiet : (v : NodeView) (node : List ℕ) (more : List SchedEvent) → v.events ≡ NodeLost node ∷ more → is_nil v.on ≡ true → RegisteredInvariant v
@@ -151,7 +155,7 @@ lost_quiet v node more e none a =
     let paired : UpdatesFollow (NodeLost node ∷ more) a.half = rw e at a.paired in
     let turns : are_turns v.turn (pending (NodeLost node ∷ more) a.half) ≡ true = rw e at a.turns in
     let same : v.undone ≡ without_idle (idle_in v) (pending (NodeLost node ∷ more) a.half) = rw e at a.same in
-    record { half = []; paired = paired.1; gone = refl; turns = turns; same = same ∙ rw none refl }
+    record { half = []; paired = paired.1; gone = refl; clear = refl; turns = turns; same = same ∙ rw none refl }
 
 -- another is at the front, and is worked off
 pub lost_front : (v : NodeView) (node : List ℕ) (more : List SchedEvent) → v.events ≡ NodeLost node ∷ more → is_nil v.on ≡ false → RegisteredInvariant v
@@ -164,7 +168,7 @@ pub lost_keeps : (v : NodeView) (node : List ℕ) (more : List SchedEvent) (on :
 lost_keeps v node more on e some none a =
     let paired : UpdatesFollow (NodeLost node ∷ more) a.half = rw e at a.paired in
     let turns : are_turns v.turn (pending (NodeLost node ∷ more) a.half) ≡ true = rw e at a.turns in
-    record { half = []; paired = paired.1; gone = refl; turns = turns; same = rw (lost_front v node more e some a, none) refl }
+    record { half = []; paired = paired.1; gone = refl; clear = refl; turns = turns; same = rw (lost_front v node more e some a, none) refl }
 
 -- more events come at the end
 
@@ -209,6 +213,7 @@ posted_keeps v turn phase ys le p t stays a =
       half = a.half;
       paired = paired_end v.events ys a.half a.paired p;
       gone = a.gone;
+      clear = a.clear;
       turns = rw end (turns_end v.turn turn (pending v.events a.half) (pending ys []) le a.turns t);
       same = rw (a.same, end) (fall_end (idle_in v) (is_idle_by phase turn v.on) (pending v.events a.half) (pending ys []) (stays a.half a.turns));
     }
@@ -251,6 +256,7 @@ beat_more v done ys is p a =
       half = a.half;
       paired = paired_end v.events ys a.half a.paired p;
       gone = a.gone;
+      clear = a.clear;
       turns = rw end (turns_end v.turn v.turn (pending v.events a.half) (pending ys []) (omega arith) a.turns turns);
       same = rw (end, is, a.same) (sym (beat_last (idle_in v) (pending v.events a.half) done refl));
     }

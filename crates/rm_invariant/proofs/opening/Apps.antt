@@ -149,12 +149,12 @@ module _ (id : AppId) where
   none_by_main p f g None (Some last) false e = rw e refl
   none_by_main p f g None None b e = at_front p (mains.AppSaved id) [] ∙ rw f refl
 
-  none_by_sched : (p : SchedEvent → Bool) → ((a : AttemptId) → p (scheds.AttemptRecovered a) ≡ false) → (end : EndOf) (last : Option AttemptRecord) (b : Bool)
-      → has_ended_last last ≡ b → count_by p (sched_by end last id) ≡ 0
-  none_by_sched p f (Some end) last b e = refl
-  none_by_sched p f None (Some last) true e = rw e refl
-  none_by_sched p f None (Some last) false e = rw e (at_front p (scheds.AttemptRecovered (record { app = id; number = last.id.number })) [] ∙ rw (f (record { app = id; number = last.id.number })) refl)
-  none_by_sched p f None None b e = refl
+  none_by_sched : (p : SchedEvent → Bool) → ((a : AttemptId) → p (scheds.AttemptRecovered a) ≡ false) → (end : EndOf) (last : Option AttemptRecord) (keep b : Bool)
+      → (has_ended_last last && not keep) ≡ b → count_by p (sched_by end last keep id) ≡ 0
+  none_by_sched p f (Some end) last keep b e = refl
+  none_by_sched p f None (Some last) keep true e = rw e refl
+  none_by_sched p f None (Some last) keep false e = rw e (at_front p (scheds.AttemptRecovered (record { app = id; number = last.id.number })) [] ∙ rw (f (record { app = id; number = last.id.number })) refl)
+  none_by_sched p f None None keep b e = refl
 
 -- what is counted over the main queue as a life opens, and over the scheduler's
 module _ (apps : List AppRecord) where
@@ -164,7 +164,7 @@ module _ (apps : List AppRecord) where
       ∙ none_among main_of p (λ app. none_by_main app.id p (f app.id) g app.ending (last_attempt app.attempts) (has_ended_last (last_attempt app.attempts)) refl) apps
 
   quiet_sched : (p : SchedEvent → Bool) → ((a : AttemptId) → p (scheds.AttemptRecovered a) ≡ false) → count_by p (opening_sched apps) ≡ 0
-  quiet_sched p f = none_among sched_of p (λ app. none_by_sched app.id p f app.ending (last_attempt app.attempts) (has_ended_last (last_attempt app.attempts)) refl) apps
+  quiet_sched p f = none_among sched_of p (λ app. none_by_sched app.id p f app.ending (last_attempt app.attempts) app.submission.keep (has_ended_last (last_attempt app.attempts) && not app.submission.keep) refl) apps
 
   saves_main : (q : AppId) → AtMostOnce q apps → count_by (is_save q) (opening_main apps) ≡ one_if (is_some_and is_fresh (record_of apps q)) 0
   saves_main q once =

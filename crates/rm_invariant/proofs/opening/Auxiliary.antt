@@ -1,5 +1,5 @@
 -- The life's Epoch is kept: all that holds of an open life holds from then on, whatever was recorded.
-use Rattle.rm_invariant.proofs.Common.{◌≡◌, ℕ, ◌+◌, suc, List, [], ◌∷◌, ◌++◌, Bool, true, false, ◌&&◌, ◌||◌, nat_le, Option, None, Some, is_none, length, refl, sym, ◌∙◌, ap, subst, arith, if◌then◌else◌, flat_map, list_any, nat_tests, AppId, AttemptId, How, AppRecord, AttemptRecord, is_attempt, last_attempt, record_of, attempt_was_first, life_keeps, has_app, LifeState, SchedEvent, AppRow, Current, Tables, was_first, kept, going_in, main_of, opening_sched, recovered_attempt, recovered_row, recovered_rows, sched_by, sched_of, row_of, AttemptAgrees, ClosingsAgree, NumberAgrees, RowAgrees, finishes_by, is_ending, History, abstract_life, abstract_scene}
+use Rattle.rm_invariant.proofs.Common.{◌≡◌, ℕ, ◌+◌, suc, List, [], ◌∷◌, ◌++◌, Bool, true, false, ◌&&◌, ◌||◌, nat_le, Option, None, Some, is_none, length, refl, sym, ◌∙◌, ap, subst, arith, if◌then◌else◌, flat_map, list_any, nat_tests, AppId, AttemptId, How, AppRecord, AttemptRecord, is_attempt, last_attempt, record_of, attempt_was_first, life_keeps, has_app, LifeState, SchedEvent, AppRow, Current, Tables, was_first, kept, going_in, main_of, opening_sched, recovered_attempt, recovered_row, recovered_rows, sched_by, sched_of, row_of, AttemptAgrees, ClosingsAgree, NumberAgrees, RowAgrees, finishes_by, is_ending, History, abstract_life, abstract_scene, not, ContainerId}
 use Rattle.std.proofs.Common.{◌==◌, nat_lt, is_some, option_map}
 use Rattle.rm_types.specs.declared.entries.Entry.TheVariants.{Kept as KeptEntry}
 use Rattle.rm_types.specs.declared.operations.Op.TheVariants as ops
@@ -19,13 +19,14 @@ use Rattle.rm_invariant.specs.masters.Sound.{Numbered}
 use Rattle.rm_invariant.proofs.opening.Masters.{opening_joins}
 use Rattle.rm_invariant.proofs.masters.Sounding.{recoverable}
 use Rattle.rm_invariant.specs.events.Refines.{Refines}
-use Rattle.rm_invariant.specs.events.Here.{AreServed, FirstsKnown}
+use Rattle.rm_invariant.specs.events.Here.{AreServed, FirstsKnown, astray_at}
 use Rattle.rm_invariant.specs.events.MainFacts.{IsSilent}
 use Rattle.rm_invariant.specs.Core.{Nothing, PreservesCore}
-use Rattle.rm_invariant.proofs.events.Leaving.{stepped_whole}
+use Rattle.rm_invariant.proofs.events.Leaving.{stepped_with}
 use Rattle.rm_invariant.specs.opening.Begun.{IsBegun}
 use Rattle.rm_invariant.specs.auxiliary.Invariant.{HasNotFinished, NoneFirst, AuxInvariant}
 use Rattle.rm_invariant.proofs.auxiliary.Together.{aux_after}
+use Rattle.rm_invariant.specs.masters.Preserves.{PreservesContainersTo}
 
 -- WHAT A LIFE OPENS WITH
 
@@ -37,10 +38,10 @@ sched_quiet q app more = by app.ending (last_attempt app.attempts)
     unended last true = refl
     unended last false = refl
 
-    by : (end : Option (How × List ℕ)) (last : Option AttemptRecord) → events_of q (sched_by end last app.id ++ more) ≡ events_of q more
+    by : (end : Option (How × List ℕ)) (last : Option AttemptRecord) → events_of q (sched_by end last app.submission.keep app.id ++ more) ≡ events_of q more
     by (Some end) last = refl
     by None None = refl
-    by None (Some last) = unended last (is_some last.ending)
+    by None (Some last) = unended last (is_some last.ending && not app.submission.keep)
 
 none_of_nodes : (q : List ℕ) (records : List AppRecord) → events_of q (opening_sched records) ≡ []
 none_of_nodes q [] = refl
@@ -54,10 +55,10 @@ none_released releases (app ∷ more) = by app.ending (last_attempt app.attempts
     unended last true e = e
     unended last false e = e
 
-    by : (end : Option (How × List ℕ)) (last : Option AttemptRecord) → AreServed releases (opening_sched more) → AreServed releases (sched_by end last app.id ++ opening_sched more)
+    by : (end : Option (How × List ℕ)) (last : Option AttemptRecord) → AreServed releases (opening_sched more) → AreServed releases (sched_by end last app.submission.keep app.id ++ opening_sched more)
     by (Some end) last e = e
     by None None e = e
-    by None (Some last) e = unended last (is_some last.ending) e
+    by None (Some last) e = unended last (is_some last.ending && not app.submission.keep) e
 
 -- an attempt of these numbers is found exactly where its number is among theirs
 found_numbers : (app : AppId) (n : ℕ) (all : List AttemptRecord) (number : ℕ) → Numbered app n all
@@ -167,8 +168,8 @@ module _ (h : History) (t : Tables) (b : IsBegun h t) (next stamp : ℕ) (front 
         masters = λ attempt. rw (registered, granted, found_row attempt.app) (row_masters attempt (has_app h.apps.retired attempt.app) (record_of t.tree.apps attempt.app));
       }
 
-  nodes_now : NodesInvariant h.nodes h.book opened.sched
-  nodes_now q =
+  nodes_now : (astray : ContainerId → Bool) → NodesInvariant astray h.nodes h.book opened.sched
+  nodes_now astray q =
       let book : h.book ≡ [] = ap (λ (x : History). x.book) b.new in
       let told : h.nodes ≡ [] = ap (λ (x : History). x.nodes) b.new in
       rw (told, book) (none_of_nodes q t.tree.apps, refl)
@@ -182,8 +183,8 @@ module _ (h : History) (t : Tables) (b : IsBegun h t) (next stamp : ℕ) (front 
 
   pub opened_whole : PreservesCore t.settings h t (KeptEntry (ops.Epoch next stamp), opened)
   opened_whole =
-      stepped_whole t.settings h t (KeptEntry (ops.Epoch next stamp)) opened life_now
-      (record { next = _; joins = opening_joins t.settings h t next stamp recovered front handed b.stored.sound }) refl b.stored.sound agrees_now nodes_now book_now
+      let joins : PreservesContainersTo t.settings h t (KeptEntry (ops.Epoch next stamp), opened) = record { next = _; joins = opening_joins t.settings h t next stamp recovered front handed b.stored.sound } in
+      stepped_with t.settings h t (KeptEntry (ops.Epoch next stamp)) opened life_now (astray_at t.settings joins.next opened) joins (λ c is. is) refl b.stored.sound agrees_now (nodes_now (astray_at t.settings joins.next opened)) book_now
 
   -- WHAT ELSE HOLDS
 

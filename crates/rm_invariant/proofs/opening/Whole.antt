@@ -1,5 +1,5 @@
 -- A life begins over whatever is recorded, issues its Epoch, and is open once that is kept.
-use Rattle.rm_invariant.proofs.Common.{◌≡◌, ◌<◌, ◌^◌, ℕ, List, [], ◌∷◌, Bool, true, false, Option, None, Some, drop, refl, sym, ◌∙◌, ap, subst, arith, if◌then◌else◌, flat_map, list_any, How, Op, AppRecord, AttemptRecord, Records, last_attempt, records, after, Allowed, Manager, MainEvent, Tables, main_worked, kept, begun, handed_out, main_step, main_by, main_of, History, live_state}
+use Rattle.rm_invariant.proofs.Common.{◌≡◌, ◌<◌, ◌^◌, ℕ, List, [], ◌∷◌, Bool, true, false, Option, None, Some, drop, refl, sym, ◌∙◌, ap, subst, arith, if◌then◌else◌, flat_map, list_any, How, Op, AppRecord, AttemptRecord, Records, last_attempt, records, after, Allowed, Manager, MainEvent, Tables, main_worked, kept, begun, handed_out, main_step, main_by, main_of, History, live_state, abstract_life, AppId, AttemptId, AppRow, ContainerId, Row, BookOf, Scene, row_of, record_of, has_container, recovered_row, recovered_rows, abstract_scene}
 use Rattle.std.specs.Prelude.{is_some}
 use Rattle.rm_types.specs.declared.entries.Entry.TheVariants.{Kept as KeptEntry}
 use Rattle.rm_types.specs.declared.operations.Op.TheVariants as ops
@@ -22,6 +22,15 @@ use Rattle.rm_invariant.proofs.measure.KeptOps.{epoch_lighter}
 use Rattle.rm_invariant.specs.Phases.{Beginning, SimulatesInternal, Saving, Starting, running, saving}
 use Rattle.rm_invariant.specs.Invariant.{NoneOpens, LifeInvariant, is_epoch_start}
 use Rattle.rm_invariant.proofs.Staying.{none_more}
+use Rattle.rm_laws.specs.FirstAttempts.{FirstStays}
+use Rattle.rm_invariant.proofs.nodes.Astray.{held_first}
+use Rattle.rm_model.specs.Changes.{life_keeps}
+use Rattle.std.proofs.Common.{option_map}
+use Rattle.rm_book.specs.Books.{TellUpTo}
+use Rattle.rm_refinement.specs.Services.{LateAgrees}
+use Rattle.rm_invariant.specs.auxiliary.Around.{AroundInvariant}
+use Rattle.rm_invariant.proofs.auxiliary.AroundEvents.{around_in, firsts_told, same_some}
+use Rattle.rm_invariant.proofs.opening.Apps.{recovered_found}
 
 -- the tables of a life that stands tell it
 pub told_standing : (h : History) (t : Tables) → t.alive ≡ true → abstract_state h t ≡ live_state h t
@@ -135,6 +144,19 @@ opening_none (app ∷ more) = none_more is_epoch_start (main_of app) (flat_map m
     by None None = refl
     by None (Some last) = ended last (is_some last.ending)
 
+-- with the master of none of these rows anybody spoke
+recovered_unspoken : (apps : List AppRecord) (rows : List (AppId × Option AppRow)) → rows ≡ recovered_rows apps → (id : AppId) (row : AppRow) → row_of rows id ≡ Some row → row.dialogue ≡ None
+recovered_unspoken apps rows is id row found = by (record_of apps id) refl (sym (recovered_found apps id) ∙ ap (λ (l : List (AppId × Option AppRow)). row_of l id) (sym is) ∙ found)
+  where
+    by : (o : Option AppRecord) → record_of apps id ≡ o → option_map recovered_row o ≡ Some row → row.dialogue ≡ None
+    by None there e = cc
+    by (Some app) there e = let same : recovered_row app ≡ row = cc in ap (λ (one : AppRow). one.dialogue) (sym same)
+
+-- so nothing came late to its attempt
+none_late : (m : Scene) (t : Tables) (q : AttemptId) (o : Option AppRow) → ((row : AppRow) → o ≡ Some row → row.dialogue ≡ None) → LateAgrees m t q o
+none_late m t q None silent = tt
+none_late m t q (Some row) silent = λ lives. (let none = silent row refl in rw none tt)
+
 module _ (h : History) (t : Tables) (s : Saving h t) (next stamp : ℕ) (rest : List Op) (front : t.awaiting ≡ ops.Epoch next stamp ∷ rest) (handed : t.handed ≡ true) where
   alone : rest ≡ []
   alone = let e = sym s.awaiting ∙ front in cc
@@ -161,6 +183,30 @@ module _ (h : History) (t : Tables) (s : Saving h t) (next stamp : ℕ) (rest : 
       let book : h.book ≡ open_whole.next.book = cc in
       sym book ∙ none
 
+  -- nothing left, nothing is pending, no row stands, and nobody speaks with a master
+  around_opened : AroundInvariant open_whole.next opened
+  around_opened =
+      let b = s.begins in
+      let w = open_whole in
+      let told : (h.book, h.endings.left, h.endings.pending) ≡ (w.next.book, w.next.endings.left, w.next.endings.pending) = same_some (ap around_in w.step.same) in
+      let left : w.next.endings.left ≡ [] = sym (ap (λ (p : List Row × List ContainerId × List ContainerId). p.1) told) ∙ ap (λ (x : History). x.endings.left) b.begun.new in
+      let waiting : w.next.endings.pending ≡ [] = sym (ap (λ (p : List Row × List ContainerId × List ContainerId). p.2) told) ∙ ap (λ (x : History). x.endings.pending) b.begun.new in
+      let departed : t.departed ≡ [] = ap (λ (x : Tables). x.departed) b.begun.tables in
+      let pending : t.pending ≡ [] = ap (λ (x : Tables). x.pending) b.begun.tables in
+      let rows : opened.rows ≡ recovered_rows t.tree.apps = ap (λ (x : Tables). x.rows) b.begun.tables in
+      let in_book : t.book ≡ record { rows = []; nodes = []; added = 0 } = ap (λ (x : Tables). x.book) b.begun.tables in
+      let silent : (id : AppId) (row : AppRow) → row_of opened.rows id ≡ Some row → row.dialogue ≡ None = recovered_unspoken t.tree.apps opened.rows rows in
+      record {
+        agrees = record {
+          firsts = firsts_told t.settings w.next opened w.whole (opened_sides h t b.begun next stamp only s.main handed w).firsts;
+          departed = λ r id below. ap (λ (ids : List ContainerId). has_container ids id) (departed ∙ sym left);
+          pending = λ r id. ap (λ (ids : List ContainerId). has_container ids id) (pending ∙ sym waiting);
+          numbers = λ r. subst (λ (book : BookOf). TellUpTo 0 book.added book.rows) (sym in_book) (omega arith);
+          late = λ r q. none_late (abstract_scene w.next opened) opened q (row_of opened.rows q.app) (λ row found. silent q.app row found);
+        };
+        told = λ id row found. let none = silent id row found in rw none tt;
+      }
+
   opened_running : LifeInvariant open_whole.next opened
   opened_running =
       let b = s.begins in
@@ -178,6 +224,8 @@ module _ (h : History) (t : Tables) (s : Saving h t) (next stamp : ℕ) (rest : 
         on_way = opened_on_way w.next opened no_book;
         apart = step_apart t.settings h t _ w.next _ w.step (rw b.begun.new tt);
         begun = begins_nothing;
+        around = around_opened;
+        held = λ c. subst (λ (m : Manager). FirstStays c.attempt m.kept m.life) w.step.same (held_first h.kept next stamp (record (life_keeps (abstract_life h t) (ops.Epoch next stamp)) { handed = false }) (ap (λ (x : History). x.first) b.begun.new) c);
       }
 
   -- the life's Epoch is kept: it is open

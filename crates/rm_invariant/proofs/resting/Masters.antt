@@ -1,17 +1,23 @@
 -- Why nothing is owed of masters and of the book where both queues and the awaiting list of an open life are empty.
-use Rattle.rm_invariant.proofs.Common.{◌≡◌, ◌≤◌, ◌<◌, ◌⊎◌, inl, inr, ℕ, zero, ◌+◌, ◌&&◌, ◌||◌, not, suc, List, [], ◌∷◌, Bool, true, false, Option, None, Some, find, get_or, length, refl, sym, ◌∙◌, ap, subst, arith, Contains, list_all, nat_tests, AppId, AttemptId, ContainerId, AppRecord, AttemptRecord, Settings, is_attempt, is_container, all_ended, record_of, is_some_and, container_itself, attempt_was_first, finishing_text, has_expired, is_over, is_living, attempts_in, end_in, has_container, AppState, AttemptState, AppRow, Current, Tables, is_master_of, row_of, History, abstract_scene}
+use Rattle.rm_invariant.proofs.Common.{◌≡◌, ◌≤◌, ◌<◌, ◌⊎◌, inl, inr, ℕ, zero, ◌+◌, ◌&&◌, ◌||◌, not, suc, List, [], ◌∷◌, Bool, true, false, Option, None, Some, find, get_or, length, refl, sym, ◌∙◌, ap, subst, arith, Contains, list_all, nat_tests, AppId, AttemptId, ContainerId, AppRecord, AttemptRecord, Settings, is_attempt, is_container, all_ended, record_of, is_some_and, container_itself, attempt_was_first, finishing_text, has_expired, is_living, attempts_in, end_in, has_container, AppState, AttemptState, AppRow, Current, Tables, is_master_of, row_of, History, abstract_scene, How}
 use Rattle.std.proofs.Common.{◌==◌, is_some}
-use Rattle.rm_model.specs.Attempts.{attempt_is_kept, kept_here}
+use Rattle.rm_types.specs.declared.operations.How.TheVariants as ways
+use Rattle.rm_model.specs.Attempts.{attempt_is_kept, kept_here, is_stale}
 use Rattle.rm_model.specs.Owed.{IsAlive}
 use Rattle.rm_states.specs.declared.app.states.AppState.TheVariants as apps
 use Rattle.rm_states.specs.declared.attempt.states.AttemptState.TheVariants as attempts
+use Rattle.rm_tables.specs.Leaving.{is_stale_in}
+use Rattle.rm_refinement.specs.Agreement.{is_among_first}
+use Rattle.rm_refinement.proofs.Recorded.{stale_same}
 use Rattle.rm_invariant.specs.apps.Invariant.{ActiveInvariant, CurrentInvariant, LastIsOpen, RowInvariant, StateInvariant, has_ended_or_is, ops_of}
 use Rattle.rm_invariant.specs.Step.{AppsInvariant}
 use Rattle.rm_invariant.specs.apps.View.{View, counts, view}
-use Rattle.rm_invariant.specs.masters.Invariant.{AliveInvariant, ContainersInvariant, ContainerByNumber, ContainerByState, ContainerByCurrent, MastersAreOwn, ContainerInvariant, ContainerByRow, own_of}
+use Rattle.rm_invariant.specs.masters.Invariant.{AliveInvariant, ContainersInvariant, ContainerByNumber, ContainerByState, ContainerByCurrent, MastersAreOwn, ContainerInvariant, ContainerByRow, own_of, Unnumbered}
 use Rattle.rm_invariant.specs.masters.Sound.{RecordsAreSound, Numbered}
 use Rattle.rm_invariant.specs.masters.View.{container_view}
 use Rattle.rm_invariant.proofs.masters.Ends.{Alive, last_in}
+use Rattle.rm_invariant.proofs.masters.Living.{end_how, some_ending}
+use Rattle.rm_invariant.proofs.masters.Stale.{among_found}
 
 all_contains : {X : Type 0} (p : X → Bool) (xs : List X) (x : X) (k : ℕ) → k < length xs → get_or xs k x ≡ x → list_all p xs ≡ true → p x ≡ true
 all_contains p [] x k lt is all = absurd (omega (arith, lt))
@@ -85,7 +91,7 @@ pub alive_at : (settings : Settings) (h : History) (t : Tables) (all : Container
     → AliveInvariant c current.lost (is_master_of c current.master) (container_view h t c)
 alive_at settings h t all row current c found is st n =
     let says : ContainerInvariant c (Some row) (container_view h t c) = rw found at (all c).0 in
-    let x : ContainerByNumber c (current.number == c.attempt.number) current (container_view h t c) = rw is at says.1.0 in
+    let x : ContainerByNumber c (current.number == c.attempt.number) current (container_view h t c) = rw is at says.1 in
     let y : ContainerByState c current.state current.lost (is_master_of c current.master) (container_view h t c) = rw n at x in
     by current.state st y
   where
@@ -181,59 +187,91 @@ module _ (settings : Settings) (h : History) (t : Tables) (k : AppsInvariant set
         second true e = cc
         second false e = refl
 
-  -- each container in the book is of an attempt that is kept and isn't over
+  -- each container in the book is of an attempt that is kept, and isn't stale
   module _ (c : ContainerId) (living : is_living h.book c ≡ true) where
-    absurd_removal : (is_living h.book c ≡ true → 1 ≤ (container_view h t c).removals) → ⊥
-    absurd_removal n = let m = n living in let o = rw no_sched at m in omega (arith, o)
-
     absurd_living : is_living h.book c ≡ false → ⊥
     absurd_living n = cc
 
-    -- the attempt of a container in the book is kept and isn't over
-    abbrev kept_and_on : Type 0
-    kept_and_on = (attempt_is_kept (abstract_scene h t) c.attempt ≡ true) × (is_over (abstract_scene h t) c.attempt ≡ false)
+    -- what is stale is to go by an event
+    none_stale : is_stale_in t.tree.apps c ≡ true → ⊥
+    none_stale s = let m = (all c).1 s living in let o = rw no_sched at m in omega (arith, o)
 
-    pub row_kept : kept_and_on
-    row_kept = by (row_of t.rows c.attempt.app) (k.all c.attempt) (all c).0
+    fresh : is_stale_in t.tree.apps c ≡ false
+    fresh = by (is_stale_in t.tree.apps c) refl
+      where
+        by : (b : Bool) → is_stale_in t.tree.apps c ≡ b → b ≡ false
+        by true e = absurd (none_stale e)
+        by false e = refl
+
+    -- the attempt of a container in the book is kept, and it isn't stale
+    abbrev kept_and_on : Type 0
+    kept_and_on = (attempt_is_kept (abstract_scene h t) c.attempt ≡ true) × (is_stale (abstract_scene h t) c ≡ false)
+
+    kept : attempt_is_kept (abstract_scene h t) c.attempt ≡ true
+    kept = by (row_of t.rows c.attempt.app) (k.all c.attempt) (all c).0
       where
         still : ops_of (counts h t c.attempt) ≡ 0
         still = rw none_await refl
 
-        goes : (number : ℕ) → (number == c.attempt.number) ≡ true → LastIsOpen (record_of t.tree.apps c.attempt.app) (record { app = c.attempt.app; number = number }) → kept_and_on
+        -- what isn't untouched is numbered as a kept one
+        numbered_kept : (found : Option AppRecord) → record_of t.tree.apps c.attempt.app ≡ found → is_among_first c.attempt (length (attempts_in found)) ≡ true → is_some (find (λ one. is_attempt one.id c.attempt) (attempts_in found)) ≡ true
+        numbered_kept None f a = absurd (grind (arith, nat_tests))
+        numbered_kept (Some one) f a =
+            let lo : 0 < c.attempt.number = grind (arith, nat_tests) in
+            let hi : c.attempt.number ≤ length one.attempts = grind (arith, nat_tests) in
+            among_found c.attempt.app 0 c.attempt.number one.attempts (each c.attempt.app one f).numbered lo (omega (arith, hi))
+
+        unnumbered : Unnumbered c (container_view h t c) → attempt_is_kept (abstract_scene h t) c.attempt ≡ true
+        unnumbered says = of (is_among_first c.attempt (length (attempts_in (record_of t.tree.apps c.attempt.app)))) refl
+          where
+            of : (b : Bool) → is_among_first c.attempt (length (attempts_in (record_of t.tree.apps c.attempt.app))) ≡ b → attempt_is_kept (abstract_scene h t) c.attempt ≡ true
+            of true a = numbered_kept (record_of t.tree.apps c.attempt.app) refl a
+            of false a = absurd (absurd_living (says a).1)
+
+        goes : (number : ℕ) → (number == c.attempt.number) ≡ true → LastIsOpen (record_of t.tree.apps c.attempt.app) (record { app = c.attempt.app; number = number }) → attempt_is_kept (abstract_scene h t) c.attempt ≡ true
         goes number n g =
             let same : number ≡ c.attempt.number = grind (arith, nat_tests) in
             let g_ : LastIsOpen (record_of t.tree.apps c.attempt.app) c.attempt = subst (λ (n : ℕ). LastIsOpen (record_of t.tree.apps c.attempt.app) (record { app = c.attempt.app; number = n })) same g in
-            let kept = last_in c.attempt (attempts_in (record_of t.tree.apps c.attempt.app)) g_.2 in
-            (kept, rw (g_.0, g_.1, g_.5) refl)
+            last_in c.attempt (attempts_in (record_of t.tree.apps c.attempt.app)) g_.2
 
-        own : (row : AppRow) (current : Current) (s : AttemptState) (m : Bool) → (current.number == c.attempt.number) ≡ true → CurrentInvariant settings s (record { app = c.attempt.app; number = current.number }) row.wish (view h t c.attempt) → ContainerByState c s current.lost m (container_view h t c) → kept_and_on
+        own : (row : AppRow) (current : Current) (s : AttemptState) (m : Bool) → (current.number == c.attempt.number) ≡ true → CurrentInvariant settings s (record { app = c.attempt.app; number = current.number }) row.wish (view h t c.attempt) → ContainerByState c s current.lost m (container_view h t c) → attempt_is_kept (abstract_scene h t) c.attempt ≡ true
         own row current attempts.Scheduled m n says at_ = absurd (absurd_living at_.1)
         own row current attempts.Granted false n says at_ = absurd (absurd_living at_.1)
         own row current attempts.Granted true n says at_ = absurd (let g = at_.1 in let x = rw no_main at g in omega (arith, x))
         own row current attempts.Saving m n says at_ = absurd (let o = says.3 in omega (arith, o, still))
         own row current attempts.Ending m n says at_ = absurd (let o = says.2 in omega (arith, o, still))
-        own row current attempts.Ended m n says at_ = absurd (absurd_removal at_)
+        own row current attempts.Ended m n says at_ = unnumbered at_
         own row current attempts.Dropped m n says at_ = absurd says
         own row current _ m n says at_ = goes current.number n says.0
 
-        numbered : (row : AppRow) (current : Current) (b : Bool) → (current.number == c.attempt.number) ≡ b → CurrentInvariant settings current.state (record { app = c.attempt.app; number = current.number }) row.wish (view h t c.attempt) → ContainerByNumber c b current (container_view h t c) → kept_and_on
+        numbered : (row : AppRow) (current : Current) (b : Bool) → (current.number == c.attempt.number) ≡ b → CurrentInvariant settings current.state (record { app = c.attempt.app; number = current.number }) row.wish (view h t c.attempt) → ContainerByNumber c b current (container_view h t c) → attempt_is_kept (abstract_scene h t) c.attempt ≡ true
         numbered row current true n says at_ = own row current current.state (is_master_of c current.master) n says at_
-        numbered row current false n says at_ = absurd (absurd_removal at_.1)
+        numbered row current false n says at_ = unnumbered at_
 
-        active : (row : AppRow) (o : Option Current) → ActiveInvariant settings c.attempt o row.wish (view h t c.attempt) → ContainerByCurrent c o (container_view h t c) → kept_and_on
+        active : (row : AppRow) (o : Option Current) → ActiveInvariant settings c.attempt o row.wish (view h t c.attempt) → ContainerByCurrent c o (container_view h t c) → attempt_is_kept (abstract_scene h t) c.attempt ≡ true
         active row None says at_ = absurd says
         active row (Some current) says at_ = numbered row current (current.number == c.attempt.number) refl says.0 at_
 
-        state : (row : AppRow) (s : AppState) → row.state ≡ s → StateInvariant settings c.attempt s row (view h t c.attempt) → ContainerByRow c (Some row) (container_view h t c) → kept_and_on
-        state row apps.New e says at_ = absurd (let none = says.0.no_attempt in let x = rw none at at_.0 in absurd_living x.1)
-        state row apps.NewSaving e says at_ = absurd (let o = says.3 in omega (arith, o, still))
-        state row apps.Submitted e says at_ = absurd (let none = says.3 in let x = rw none at at_.0 in absurd_living x.1)
-        state row apps.Accepted e says at_ = active row row.current says.3 at_.0
-        state row apps.Running e says at_ = active row row.current says.3 at_.0
-        state row apps.Killing e says at_ = active row row.current says.5 at_.0
-        state row apps.FinalSaving e says at_ = absurd (let o = says.4 in omega (arith, o, still))
-        state row _ e says at_ = absurd (absurd_removal (at_.1 (rw e refl)))
+        -- an application with a kept end has nothing but what is stale
+        ended : (found : Option AppRecord) → record_of t.tree.apps c.attempt.app ≡ found → (how : How) → end_how found ≡ Some how → ⊥
+        ended None f how e = none_stale (rw f refl)
+        ended (Some one) f how e = let s = some_ending one.ending how e in none_stale (rw f (rw s refl))
 
-        by : (row : Option AppRow) → RowInvariant settings c.attempt row (view h t c.attempt) → ContainerInvariant c row (container_view h t c) → kept_and_on
-        by None good says = absurd (absurd_removal says.1.1)
+        state : (row : AppRow) (s : AppState) → row.state ≡ s → StateInvariant settings c.attempt s row (view h t c.attempt) → ContainerByRow c (Some row) (container_view h t c) → attempt_is_kept (abstract_scene h t) c.attempt ≡ true
+        state row apps.New e says at_ = absurd (let none = says.0.no_attempt in let x = rw none at at_ in absurd_living x.1)
+        state row apps.NewSaving e says at_ = absurd (let o = says.3 in omega (arith, o, still))
+        state row apps.Submitted e says at_ = absurd (let none = says.3 in let x = rw none at at_ in absurd_living x.1)
+        state row apps.Accepted e says at_ = active row row.current says.3 at_
+        state row apps.Running e says at_ = active row row.current says.3 at_
+        state row apps.Killing e says at_ = active row row.current says.5 at_
+        state row apps.FinalSaving e says at_ = absurd (let o = says.4 in omega (arith, o, still))
+        state row apps.Finished e says at_ = absurd (ended (record_of t.tree.apps c.attempt.app) refl ways.Finished says.0)
+        state row apps.Failed e says at_ = absurd (ended (record_of t.tree.apps c.attempt.app) refl ways.Failed says.0)
+        state row apps.Killed e says at_ = absurd (ended (record_of t.tree.apps c.attempt.app) refl ways.Killed says.0)
+
+        by : (row : Option AppRow) → RowInvariant settings c.attempt row (view h t c.attempt) → ContainerInvariant c row (container_view h t c) → attempt_is_kept (abstract_scene h t) c.attempt ≡ true
+        by None good says = absurd (let none = good.no_record in none_stale (rw none refl))
         by (Some row) good says = state row row.state refl good.1 says.1
+
+    pub row_kept : kept_and_on
+    row_kept = (kept, sym (stale_same (abstract_scene h t) c) ∙ fresh)

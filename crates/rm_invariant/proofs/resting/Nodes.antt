@@ -1,5 +1,5 @@
 -- Where no event of a node waits, nothing of it is left to work off.
-use Rattle.rm_invariant.proofs.Common.{◌≡◌, ℕ, zero, suc, ◌<◌, List, [], ◌∷◌, length, get_or, Bool, true, false, Option, None, Some, map, refl, ◌∙◌, ap, arith, Contains, bytes_eq, text_itself, same_text, Row, ids_on, judged_node}
+use Rattle.rm_invariant.proofs.Common.{◌≡◌, ℕ, zero, suc, ◌<◌, List, [], ◌∷◌, length, get_or, Bool, true, false, Option, None, Some, map, refl, ◌∙◌, ap, arith, Contains, bytes_eq, text_itself, same_text, Row, ids_on, judged_node, ContainerId}
 use Rattle.rm_model.specs.State.{NodeState}
 use Rattle.rm_invariant.specs.nodes.Names.{NamesApart}
 use Rattle.rm_invariant.specs.nodes.Invariant.{RegisteredInvariant, node_view, NodesInvariant}
@@ -39,6 +39,6 @@ apart_map change k (node ∷ nodes) h =
     (rw (k node) none, apart_map change k nodes h.1)
 
 -- item 7 of what is owed: with the scheduler's queue empty it is not
-pub nothing_undone : (nodes : List NodeState) (book : List Row) → NamesApart nodes → NodesInvariant nodes book [] → (node : NodeState) → Contains nodes node → node.undone ≡ []
-nothing_undone nodes book h good node c =
-    let a : RegisteredInvariant (node_view node [] (ids_on book node.name)) = rw (listed_found nodes h node c) at (good node.name) in a.same
+pub nothing_undone : (astray : ContainerId → Bool) (nodes : List NodeState) (book : List Row) → NamesApart nodes → NodesInvariant astray nodes book [] → (node : NodeState) → Contains nodes node → node.undone ≡ []
+nothing_undone astray nodes book h good node c =
+    let a : RegisteredInvariant (node_view astray node [] (ids_on book node.name)) = rw (listed_found nodes h node c) at (good node.name) in a.same

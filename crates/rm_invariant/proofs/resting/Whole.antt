@@ -1,5 +1,5 @@
 -- The cover: why an open life with both queues and the awaiting list empty owes nothing. Each item of what is owed contradicts one of the facts.
-use Rattle.rm_invariant.proofs.Common.{◌≡◌, ◌≤◌, ◌<◌, ℕ, zero, suc, List, [], ◌∷◌, Bool, true, false, ◌||◌, length, get_or, refl, subst, arith, is_container, container_itself, is_living, Row, Tables, History, abstract_scene}
+use Rattle.rm_invariant.proofs.Common.{◌≡◌, ◌≤◌, ◌<◌, ℕ, zero, suc, List, [], ◌∷◌, Bool, true, false, ◌||◌, length, get_or, refl, subst, arith, is_container, container_itself, is_living, Row, Tables, History, abstract_scene, ◌∙◌}
 use Rattle.std.proofs.Common.{count_by}
 use Rattle.rm_model.specs.Owed.{Owed, opening, keeping, killing, accepting, deciding, asking, finishing, expiring, losing, ordering, working, leaving, retiring}
 use Rattle.rm_invariant.specs.apps.Completed.{is_retire}
@@ -11,6 +11,9 @@ use Rattle.rm_invariant.proofs.apps.Retiring.{as_many}
 use Rattle.rm_invariant.proofs.resting.Masters.{not_finishing, not_expired, still_there, is_ordered, row_kept}
 use Rattle.rm_invariant.specs.Core.{CoreInvariant}
 use Rattle.rm_invariant.specs.auxiliary.Invariant.{AuxInvariant}
+use Rattle.rm_tables.specs.Leaving.{is_stale_in}
+use Rattle.rm_refinement.proofs.Recorded.{stale_same}
+use Rattle.rm_invariant.specs.events.Here.{astray_at}
 
 -- what holds of each row holds of one among them
 all_at : (P : Row → Type 0) (rows : List Row) (row : Row) (k : ℕ) → k < length rows → get_or rows k row ≡ row → All P rows → P row
@@ -29,7 +32,7 @@ living_at (one ∷ rows) row (suc k) lt is = or_last (is_container one.id row.id
     or_last false e = e
 
 -- an open life in which nothing is in flight owes nothing
-pub owes_nothing : (h : History) (t : Tables) → CoreInvariant t.settings h t → AuxInvariant h t → NamesApart h.nodes → All (λ row. row.released ≡ false) h.book → t.main ≡ [] → t.sched ≡ [] → t.awaiting ≡ []
+pub owes_nothing : (h : History) (t : Tables) → CoreInvariant t.settings h t → AuxInvariant h t → NamesApart h.nodes → All (λ row. is_stale_in t.tree.apps row.id ≡ false → row.released ≡ false) h.book → t.main ≡ [] → t.sched ≡ [] → t.awaiting ≡ []
     → Owed t.settings (abstract_scene h t) → ⊥
 owes_nothing h t w sides apart unmarked main sched awaiting (opening closed) = let k = w.keeps in let o = k.is_open in cc
 owes_nothing h t w sides apart unmarked main sched awaiting (keeping id known unkept) =
@@ -58,13 +61,14 @@ owes_nothing h t w sides apart unmarked main sched awaiting (losing attempt aliv
 owes_nothing h t w sides apart unmarked main sched awaiting (ordering attempt alive first unordered) =
     is_ordered t.settings h t w.keeps w.marks w.sound sides.apt main sched awaiting attempt alive first unordered
 owes_nothing h t w sides apart unmarked main sched awaiting (working node there undone) =
-    undone (nothing_undone h.nodes h.book apart (rw sched at w.nodes) node there)
+    undone (nothing_undone (astray_at t.settings h t) h.nodes h.book apart (rw sched at w.nodes) node there)
 owes_nothing h t w sides apart unmarked main sched awaiting (leaving row there why) =
     let lives = living_at h.book row there.0 there.1 there.2 in
     let stays = row_kept t.settings h t w.keeps w.marks w.sound sides.apt main sched awaiting row.id lives in
-    let free : row.released ≡ false = all_at (λ row. row.released ≡ false) h.book row there.0 there.1 there.2 unmarked in
     let kept = stays.0 in
     let on = stays.1 in
+    let fresh : is_stale_in t.tree.apps row.id ≡ false = stale_same (abstract_scene h t) row.id ∙ on in
+    let free : row.released ≡ false = all_at (λ row. is_stale_in t.tree.apps row.id ≡ false → row.released ≡ false) h.book row there.0 there.1 there.2 unmarked fresh in
     absurd (let x = rw (free, on, kept) at why in cc)
 owes_nothing h t w sides apart unmarked main sched awaiting (retiring many) =
     let all = as_many t.settings h t w.keeps sides.completes in

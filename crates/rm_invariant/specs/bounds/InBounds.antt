@@ -116,7 +116,7 @@ pub record AreNodes (nodes : List (List ℕ × NodeRow)) : Type 0 where
 
 -- ALL OF IT
 
--- the numbers of a life that rise by its messages, of which there are at most a hundred thousand
+-- the numbers of a life that rise by its messages, of which there are fewer than 2^31
 pub record AreCounts (t : Tables) : Type 0 where
   pub epoch : t.epoch < EPOCHS
   pub served : t.served ≤ most_served

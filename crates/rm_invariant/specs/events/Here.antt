@@ -1,12 +1,14 @@
 -- What the tables are to launch, and what they know of applications, where containers leave. This project's own.
-use Rattle.std.specs.Prelude.{◌≡◌, ◌⊎◌, ◌∷◌, [], ◌≢◌, ℕ, Option, List, Bool, true, None, Some}
-use Rattle.std.specs.List.{list_all}
+use Rattle.std.specs.Prelude.{◌≡◌, ◌⊎◌, ◌∷◌, [], ◌≢◌, ℕ, Option, List, Bool, true, false, None, Some, unwrap_or}
+use Rattle.std.specs.List.{list_all, list_any}
 use Rattle.rm_types.specs.declared.ids.AppId.{AppId}
 use Rattle.rm_types.specs.declared.ids.AttemptId.{AttemptId}
 use Rattle.rm_types.specs.declared.ids.ContainerId.{ContainerId}
 use Rattle.rm_types.specs.Records.{record_of}
 use Rattle.rm_book.specs.Books.{BookOf, book_row as book_row_of}
 use Rattle.rm_model.specs.Attempts.{attempt_was_first}
+use Rattle.rm_types.specs.declared.settings.Settings.{Settings}
+use Rattle.rm_model.specs.Containers.{is_astray}
 use Rattle.rm_model.specs.State.{Release, Scene}
 use Rattle.rm_tables.specs.declared.events.SchedEvent.{SchedEvent}
 use Rattle.rm_tables.specs.declared.events.SchedEvent.TheVariants as scheds
@@ -17,6 +19,7 @@ use Rattle.rm_tables.specs.declared.tables.Tables.{Tables}
 use Rattle.rm_tables.specs.Absorbing.{was_first}
 use Rattle.rm_tables.specs.Nodes.{node_row}
 use Rattle.rm_tables.specs.Rows.{row_of}
+use Rattle.rm_refinement.specs.History.{History, abstract_scene}
 use Rattle.rm_tables.specs.SchedEvents.{is_on}
 
 -- each of these containers stands on a node
@@ -38,6 +41,10 @@ FirstsKnown m rows = (id : AttemptId) (row : AppRow) → row_of rows id.app ≡ 
 -- no node that registered is absent
 abbrev pub NoneAbsent : List (List ℕ × NodeRow) → Type 0
 NoneAbsent nodes = (name : List ℕ) (row : NodeRow) → node_row nodes name ≡ Some row → row.state ≢ states.Absent
+
+-- what is astray in the scene that the tables stand for
+abbrev pub astray_at : Settings → History → Tables → ContainerId → Bool
+astray_at settings h t = is_astray settings (abstract_scene h t)
 
 -- a release is one of these
 abbrev pub IsServedRelease : Release → List Release → Type 0

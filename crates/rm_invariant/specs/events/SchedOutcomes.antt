@@ -25,16 +25,16 @@ use Rattle.rm_tables.specs.Leaving.{left_all}
 use Rattle.rm_tables.specs.Nodes.{is_waiting_row, node_row}
 use Rattle.rm_tables.specs.Passing.{grants_on, passed_with}
 use Rattle.rm_tables.specs.Rows.{row_of}
-use Rattle.rm_tables.specs.SchedEvents.{is_on, is_released, master_asked}
+use Rattle.rm_tables.specs.SchedEvents.{ends_as_done, is_released, master_asked}
 use Rattle.rm_invariant.specs.events.Outcomes.{IsCurrentOf}
 
 -- which containers end by an event that isn't an absorption, and for which cause
-abbrev pub ending_of : SchedEvent → List ContainerId → Tables → Option (Cause × List ContainerId)
-ending_of (scheds.AttemptRemoved id) list t = Some (causes.Attempt, list)
-ending_of (scheds.Release attempt released) list t = Some (causes.Released, once (filter (is_released attempt t) released))
-ending_of (scheds.NodeDone node done) list t = Some (causes.Done, once (filter (λ id. is_on node (book_row_of t.book id)) done))
-ending_of (scheds.NodeLost node) list t = Some (causes.Node, list)
-ending_of _ list t = None
+abbrev pub leaving_by : SchedEvent → List ContainerId → Tables → Option (Cause × List ContainerId)
+leaving_by (scheds.AttemptRemoved id) list t = Some (causes.Attempt, list)
+leaving_by (scheds.Release attempt released) list t = Some (causes.Released, once (filter (is_released attempt t) released))
+leaving_by (scheds.NodeDone node done) list t = Some (causes.Done, once (filter (ends_as_done node t) done))
+leaving_by (scheds.NodeLost node) list t = Some (causes.Node, list)
+leaving_by _ list t = None
 
 -- the current attempt of an application, if there is one, isn't this one, or isn't scheduled
 abbrev pub IsNotScheduled : ℕ → Option Current → Type 0
@@ -43,7 +43,7 @@ IsNotScheduled number (Some current) = (current.state ≢ attempts.Scheduled) �
 
 -- no container ends by an event
 abbrev pub NoneEnds : SchedEvent → List ContainerId → Tables → Type 0
-NoneEnds e list t = (cause : Cause) (ids : List ContainerId) → ending_of e list t ≡ Some (cause, ids) → ids ≡ []
+NoneEnds e list t = (cause : Cause) (ids : List ContainerId) → leaving_by e list t ≡ Some (cause, ids) → ids ≡ []
 
 -- an event has nothing to do: an attempt doesn't ask where it isn't scheduled, and no container ends
 abbrev pub HasNothingToDo : SchedEvent → List ContainerId → Tables → Type 0
@@ -61,7 +61,7 @@ pub data SchedOutcome (t : Tables) (list : List ContainerId) : SchedEvent → En
   asks : (id : AttemptId) (row : AppRow) (current : Current) → IsCurrentOf t id.app row current → current.state ≡ attempts.Scheduled → (current.number == id.number) ≡ true
       → SchedOutcome t list (scheds.AttemptAdded id) (Queued id, record t { asks = master_asked id (found_in t id.app) t.asks })
   -- containers end
-  ends : (e : SchedEvent) (cause : Cause) (id : ContainerId) (ids : List ContainerId) → ending_of e list t ≡ Some (cause, id ∷ ids) → SchedOutcome t list e (Ended cause (id ∷ ids), left_all cause (id ∷ ids) t)
+  ends : (e : SchedEvent) (cause : Cause) (id : ContainerId) (ids : List ContainerId) → leaving_by e list t ≡ Some (cause, id ∷ ids) → SchedOutcome t list e (Ended cause (id ∷ ids), left_all cause (id ∷ ids) t)
   -- the report of a node that registered is absorbed
   absorbs : (name : List ℕ) (turn : ℕ) (row : NodeRow) → node_row t.nodes name ≡ Some row → (is_waiting_row row.state && (row.turn == turn)) ≡ true
       → SchedOutcome t list (scheds.NodeAdded name turn) (absorption_step name row.capability (taken_in t name row) list t)

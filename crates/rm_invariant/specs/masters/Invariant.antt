@@ -1,16 +1,14 @@
 -- What holds of a container, by the state of its application's row and that of the current attempt: of each state one line, of what the
 -- book has of it, how much of it is on its way, and what the judge remembers. Of a container that the row names as its master more is said
 -- than of another one. It is said of every container id there may be. This project's own.
-use Rattle.std.specs.Prelude.{◌≡◌, ◌≤◌, ◌<◌, ◌+◌, ◌⊎◌, List, Bool, true, false, ◌||◌, not, ◌==◌, Option, None, Some, find, is_some, length, option_and_then}
+use Rattle.std.specs.Prelude.{◌≡◌, ◌≤◌, ◌+◌, ◌⊎◌, List, Bool, true, false, not, ◌==◌, Option, None, Some, find, length}
 use Rattle.rm_types.specs.declared.ids.AttemptId.{AttemptId}
 use Rattle.rm_types.specs.declared.ids.ContainerId.{ContainerId}
 use Rattle.rm_types.specs.declared.records.AppRecord.{AppRecord}
 use Rattle.rm_types.specs.declared.records.AttemptRecord.{AttemptRecord}
 use Rattle.rm_types.specs.Ids.{is_attempt, is_container}
 use Rattle.rm_types.specs.Records.{is_some_and, record_of}
-use Rattle.rm_model.specs.Facts.{attempts_in, end_in}
-use Rattle.rm_states.specs.declared.app.states.AppState.{AppState}
-use Rattle.rm_states.specs.declared.app.states.AppState.TheVariants as apps
+use Rattle.rm_model.specs.Facts.{attempts_in}
 use Rattle.rm_states.specs.declared.attempt.states.AttemptState.{AttemptState}
 use Rattle.rm_states.specs.declared.attempt.states.AttemptState.TheVariants as attempts
 use Rattle.rm_tables.specs.declared.rows.AppRow.{AppRow}
@@ -18,7 +16,9 @@ use Rattle.rm_tables.specs.declared.rows.Current.{Current}
 use Rattle.rm_tables.specs.declared.tables.Tables.{Tables}
 use Rattle.rm_tables.specs.MainEvents.{is_master_of}
 use Rattle.rm_tables.specs.Rows.{row_of}
+use Rattle.rm_tables.specs.Leaving.{stale_by}
 use Rattle.rm_refinement.specs.History.{History}
+use Rattle.rm_refinement.specs.Agreement.{is_among_first}
 use Rattle.rm_invariant.specs.masters.View.{ContainerView, container_view}
 
 -- the record of the container's attempt names it
@@ -32,6 +32,10 @@ Unsaved v = (v.launches ≡ 0) × (v.expiries ≡ 0) × (v.expired ≡ false) ×
 -- and of one whose attempt has no master either
 abbrev pub Untouched : ContainerView → Type 0
 Untouched v = Unsaved v × (v.living ≡ false) × (v.savings ≡ 0) × (v.grants ≡ 0)
+
+-- of one whose number is none of a kept attempt's
+abbrev pub Unnumbered : ContainerId → ContainerView → Type 0
+Unnumbered c v = is_among_first c.attempt (length (attempts_in v.found)) ≡ false → Untouched v
 
 -- of the master of an attempt that lives: where it left that is on its way to the attempt or marked, and where the attempt was kept in
 -- this life it was granted in it and is ordered or is to be
@@ -64,48 +68,31 @@ ContainerByState c attempts.Live lost mine v = AliveInvariant c lost mine v
 ContainerByState c attempts.Registered lost mine v = AliveInvariant c lost mine v
 ContainerByState c attempts.Finishing lost mine v = AliveInvariant c lost mine v
 ContainerByState c attempts.Ending lost mine v = Unit {0}
-ContainerByState c attempts.Ended lost mine v = v.living ≡ true → 1 ≤ v.removals
+ContainerByState c attempts.Ended lost mine v = Unnumbered c v
 ContainerByState c attempts.Dropped lost mine v = Unit {0}
 
 -- of a container, whose attempt is the current one or isn't
 abbrev pub ContainerByNumber : ContainerId → Bool → Current → ContainerView → Type 0
 ContainerByNumber c true current v = ContainerByState c current.state current.lost (is_master_of c current.master) v
-ContainerByNumber c false current v = (length (attempts_in v.found) < c.attempt.number → Untouched v) × (v.living ≡ true → 1 ≤ v.removals)
+ContainerByNumber c false current v = Unnumbered c v
 
 -- by the current attempt
 abbrev pub ContainerByCurrent : ContainerId → Option Current → ContainerView → Type 0
 ContainerByCurrent c None v = Untouched v
 ContainerByCurrent c (Some current) v = ContainerByNumber c (current.number == c.attempt.number) current v
 
--- the end of an application is kept
-abbrev pub is_final : AppState → Bool
-is_final apps.New = false
-is_final apps.NewSaving = false
-is_final apps.Submitted = false
-is_final apps.Accepted = false
-is_final apps.Running = false
-is_final apps.Killing = false
-is_final apps.FinalSaving = false
-is_final apps.Finished = true
-is_final apps.Failed = true
-is_final apps.Killed = true
-
 -- by the row of its application
 abbrev pub ContainerByRow : ContainerId → Option AppRow → ContainerView → Type 0
-ContainerByRow c None v = (v.retired ≡ false → Untouched v) × (v.living ≡ true → 1 ≤ v.removals)
-ContainerByRow c (Some row) v = ContainerByCurrent c row.current v × (is_final row.state ≡ true → v.living ≡ true → 1 ≤ v.removals)
+ContainerByRow c None v = v.retired ≡ false → Untouched v
+ContainerByRow c (Some row) v = ContainerByCurrent c row.current v
 
 -- what holds of a container, by the row of its application: a MasterLost tells of one that left
 abbrev pub ContainerInvariant : ContainerId → Option AppRow → ContainerView → Type 0
 ContainerInvariant c row v = (1 ≤ v.losses → v.left ≡ true) × ContainerByRow c row v
 
--- the end of an application is recorded, or that of its attempt
-abbrev pub has_end_in : AttemptId → Option AppRecord → Bool
-has_end_in id found = is_some (end_in found) || is_some (option_and_then (λ one. one.ending) (find (λ one. is_attempt one.id id) (attempts_in found)))
-
--- an AttemptRemoved tells of an attempt that is over: its application was removed, or its end or that of its application is kept
+-- of a container that is stale and lives an AttemptRemoved of its application is on its way
 abbrev pub RemovalInvariant : ContainerId → ContainerView → Type 0
-RemovalInvariant c v = 1 ≤ v.removals → (v.retired ≡ true) ⊎ (has_end_in c.attempt v.found ≡ true)
+RemovalInvariant c v = stale_by c v.found ≡ true → v.living ≡ true → 1 ≤ v.removals
 
 -- what holds of every container
 abbrev pub ContainersInvariant : History → Tables → Type 0

@@ -5,7 +5,7 @@ use Rattle.rm_types.specs.declared.ids.ContainerId.{ContainerId}
 use Rattle.rm_types.specs.declared.operations.Op.{Op}
 use Rattle.rm_types.specs.declared.operations.Op.TheVariants as ops
 use Rattle.rm_types.specs.declared.records.AppRecord.{AppRecord}
-use Rattle.rm_types.specs.Ids.{is_attempt, is_container}
+use Rattle.rm_types.specs.Ids.{is_attempt, is_container, is_app}
 use Rattle.rm_types.specs.Records.{record_of}
 use Rattle.rm_model.specs.Facts.{has_app, has_container}
 use Rattle.rm_model.specs.Attempts.{attempt_was_first, finishing_text, has_expired}
@@ -26,7 +26,7 @@ pub record ContainerView : Type 0 where
   pub grants : ℕ
   pub losses : ℕ
   pub savings : ℕ
-  -- of its attempt: the AttemptSaved, AttemptExpired, AttemptFinish and AttemptRemoved
+  -- of its attempt: the AttemptSaved, AttemptExpired and AttemptFinish; and of its application: the AttemptRemoved
   pub launches : ℕ
   pub expiries : ℕ
   pub finishes : ℕ
@@ -42,7 +42,7 @@ pub record ContainerView : Type 0 where
   -- its application was removed
   pub retired : Bool
 
--- the tests that are counted: an event or an operation is of this kind, and of the container or its attempt
+-- the tests that are counted: an event or an operation is of this kind, and of the container, its attempt or its application
 abbrev pub is_granting : ContainerId → MainEvent → Bool
 is_granting c (mains.MasterGranted master) = is_container master c
 is_granting c _ = false
@@ -62,9 +62,9 @@ abbrev pub is_finish : ContainerId → MainEvent → Bool
 is_finish c (mains.AttemptFinish id) = is_attempt id c.attempt
 is_finish c _ = false
 
--- the attempt's containers are to end
+-- what is stale of its application is to end
 abbrev pub is_attempt_removal : ContainerId → SchedEvent → Bool
-is_attempt_removal c (scheds.AttemptRemoved id) = is_attempt id c.attempt
+is_attempt_removal c (scheds.AttemptRemoved id) = is_app id.app c.attempt.app
 is_attempt_removal c _ = false
 
 -- the operation is the Attempt of which the container is the master's

@@ -72,8 +72,8 @@ main_measure most (mains.AttemptFinish id) = 1
 main_measure most (mains.AttemptDone id) = 1
 main_measure most mains.Retire = 1
 
--- and so does one of the scheduler's: a beat may enter as many rows as a pass grants, each with its MasterGranted, and a registration as many
--- as a node reports
+-- and so does one of the scheduler's: a beat may enter as many rows as a pass grants, each with its MasterGranted, a registration as many as
+-- a node reports, and of what a node lists as done each may bring a MasterLost without having a row
 abbrev pub sched_measure : SchedEvent → ℕ
 sched_measure (scheds.AppAdded id) = 2
 sched_measure (scheds.AttemptRecovered id) = 1
@@ -81,7 +81,7 @@ sched_measure (scheds.AttemptAdded id) = 1
 sched_measure (scheds.AttemptRemoved id) = 1
 sched_measure (scheds.Release attempt released) = 1
 sched_measure (scheds.NodeAdded node turn) = 1 + most_reported
-sched_measure (scheds.NodeDone node done) = 1
+sched_measure (scheds.NodeDone node done) = 1 + length done
 sched_measure (scheds.NodeUpdate node) = 1 + 3 * most_grants
 sched_measure (scheds.NodeLost node) = 1
 
@@ -174,6 +174,6 @@ measure t = measure_with t.settings.max_attempts t
 abbrev pub begin_measure : Settings → Records → ℕ
 begin_measure settings tree = 7 + (10 + untried_measure settings.max_attempts) * length tree.apps
 
--- a message adds at most so much: the most is where a node registers, whose report is to be absorbed
+-- a message adds at most so much: the most is where a node's beat lists what is done, and is to be answered by a pass
 abbrev pub message_measure : ℕ
-message_measure = 1 + most_reported
+message_measure = 2 + most_reported + 3 * most_grants

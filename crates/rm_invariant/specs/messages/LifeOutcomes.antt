@@ -19,7 +19,7 @@ use Rattle.rm_model.specs.Attempts.{is_registered}
 use Rattle.rm_model.specs.MasterReplies.{allocates as served_to, is_new_to_master, registers as registered_by, with_master}
 use Rattle.rm_model.specs.NodeReplies.{beats as beaten_by, expired, is_later_turn, is_new_to_node, nodes_registered}
 use Rattle.rm_model.specs.Nodes.{judged_node, tidied, with_judged_node}
-use Rattle.rm_model.specs.State.{LifeState, Scene}
+use Rattle.rm_model.specs.State.{LifeState, Row, Scene}
 use Rattle.rm_invariant.specs.messages.Outcomes.{serves_allocation}
 
 -- what a message may come to
@@ -33,8 +33,8 @@ pub data LifeOutcome (m : Scene) : Message → Reply → LifeState → Type 0 wh
       → LifeOutcome m (messages.Client user (clients.Submit id submission)) reply (record m.life { apps = record m.life.apps { submitted = m.life.apps.submitted ++ record { id = id; submission = submission } ∷ [] } })
   -- a kill is wished for
   wishes : (user : List ℕ) (id : AppId) (reply : Reply) → LifeOutcome m (messages.Client user (clients.Kill id)) reply (record m.life { apps = record m.life.apps { wishes = m.life.apps.wishes ++ id ∷ [] } })
-  -- a master registers, its allocation is served, it finishes
-  registers : (attempt : AttemptId) (reply : Reply) → LifeOutcome m (messages.Master attempt masters.Register) reply (registered_by m attempt)
+  -- a master registers, and may be handed containers; its allocation is served; it finishes
+  registers : (attempt : AttemptId) (reply : Reply) (book : List Row) → LifeOutcome m (messages.Master attempt masters.Register) reply (record (registered_by m attempt reply) { book = book })
   allocates : (attempt : AttemptId) (id : ℕ) (asks : List Ask) (release : List ContainerId) (reply : Reply) → serves_allocation reply ≡ true → is_new_to_master m attempt id ≡ true
       → LifeOutcome m (messages.Master attempt (masters.Allocate id asks release)) reply (served_to m attempt asks release reply)
   finishes : (attempt : AttemptId) (text : List ℕ) (reply : Reply) → is_registered m attempt ≡ true

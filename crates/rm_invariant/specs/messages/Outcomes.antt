@@ -35,15 +35,18 @@ after_message (messages.Master attempt ask) reply t = after_master attempt ask r
 after_message (messages.Node name ask) reply t = after_node name ask reply t
 after_message (messages.Clock ask) reply t = after_clock ask reply t
 
--- a reply by which a master registers, an allocation is served, a beat is answered
+-- by this reply a master registers
 abbrev pub registers_master : Reply → Bool
 registers_master replies.MasterRegistered = true
+registers_master (replies.Took kept) = true
 registers_master _ = false
 
+-- by this reply an allocation is served
 abbrev pub serves_allocation : Reply → Bool
 serves_allocation (replies.Allocated next grants ended) = true
 serves_allocation _ = false
 
+-- by this reply a beat is answered
 abbrev pub answers_beat : Reply → Bool
 answers_beat (replies.Beat next launched clean) = true
 answers_beat _ = false

@@ -1,5 +1,5 @@
 -- The messages that a manager serves: each part is in its range, as a script says it. The ranges are this project's own.
-use Rattle.std.specs.Prelude.{◌≤◌, ℕ}
+use Rattle.std.specs.Prelude.{◌≡◌, ◌≤◌, ℕ}
 use Rattle.rm_types.specs.declared.messages.ClientAsk.{ClientAsk}
 use Rattle.rm_types.specs.declared.messages.ClientAsk.TheVariants as clients
 use Rattle.rm_types.specs.declared.messages.ClockAsk.{ClockAsk}

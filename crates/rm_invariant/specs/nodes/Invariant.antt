@@ -62,17 +62,19 @@ pub record NodeView : Type 0 where
   pub events : List SchedEvent
   -- by the judge
   pub undone : List Undone
+  pub astray : ContainerId → Bool
 
 -- what has nothing to do, as things stand
 abbrev pub idle_in : NodeView → Undone → Bool
 idle_in v = is_idle_by v.phase v.turn v.on
 
 -- what holds at a node: its events are what isn't worked off; where the first beat's done list was worked off, none of it is
--- on the node
+-- on the node or astray
 pub record RegisteredInvariant (v : NodeView) : Type 0 where
   pub half : List ContainerId
   pub paired : UpdatesFollow v.events half
   pub gone : list_any (has_container v.on) half ≡ false
+  pub clear : list_any v.astray half ≡ false
   pub turns : are_turns v.turn (pending v.events half) ≡ true
   pub same : v.undone ≡ without_idle (idle_in v) (pending v.events half)
 
@@ -80,15 +82,15 @@ pub record RegisteredInvariant (v : NodeView) : Type 0 where
 abbrev pub events_of : List ℕ → List SchedEvent → List SchedEvent
 events_of name sched = filter (is_nodes_event name) sched
 
--- a node with its events and the containers on it
-abbrev pub node_view : NodeState → List SchedEvent → List ContainerId → NodeView
-node_view node events on = record { turn = node.last.turn; phase = node.phase; on = on; events = events; undone = node.undone }
+-- a node with its events, the containers on it, and what is astray
+abbrev pub node_view : (ContainerId → Bool) → NodeState → List SchedEvent → List ContainerId → NodeView
+node_view astray node events on = record { turn = node.last.turn; phase = node.phase; on = on; events = events; undone = node.undone; astray = astray }
 
 -- what holds of a name: where a node has it, and where none has
-abbrev pub NodeInvariant : Option NodeState → List SchedEvent → List ContainerId → Type 0
-NodeInvariant None events on = (events ≡ []) × (on ≡ [])
-NodeInvariant (Some node) events on = RegisteredInvariant (node_view node events on)
+abbrev pub NodeInvariant : (ContainerId → Bool) → Option NodeState → List SchedEvent → List ContainerId → Type 0
+NodeInvariant astray None events on = (events ≡ []) × (on ≡ [])
+NodeInvariant astray (Some node) events on = RegisteredInvariant (node_view astray node events on)
 
 -- it holds of every name there may be, with the node, the events and the containers that have it
-abbrev pub NodesInvariant : List NodeState → List Row → List SchedEvent → Type 0
-NodesInvariant nodes book sched = (q : List ℕ) → NodeInvariant (judged_node nodes q) (events_of q sched) (ids_on book q)
+abbrev pub NodesInvariant : (ContainerId → Bool) → List NodeState → List Row → List SchedEvent → Type 0
+NodesInvariant astray nodes book sched = (q : List ℕ) → NodeInvariant astray (judged_node nodes q) (events_of q sched) (ids_on book q)

@@ -1,6 +1,7 @@
 use Rattle.rm_core.specs.declared.manager.Move.TheVariants.{Sched}
 use Rattle.rm_core.proofs.Moving.{Done, core_sound, sched_done}
 use Rattle.rm_invariant.proofs.auxiliary.Facts.{sched_facts_of}
+use Rattle.rm_invariant.proofs.MessagesPreserve.{life_shown}
 use Rattle.rm_invariant.proofs.bounds.Passable.{are_few, can_pass}
 use Rattle.rm_invariant.proofs.Phases.{sched_open}
 use Rattle.rm_core.proofs.manager.Core.sched.Goals as goal
@@ -20,5 +21,5 @@ sched-requires c = record {
       let t = c.self.inside.tables in
       let h = c.self.invariant.sound.history in
       let r = sched_open h t _ rest c.self.invariant.sound.phase front in
-      (are_few t.settings h t r.whole (sched_facts_of h t r.sides) r.ranged, can_pass t.settings h t r.whole (sched_facts_of h t r.sides) r.ranged);
+      (are_few t.settings h t r.whole (sched_facts_of h t (life_shown h t r) r.sides) r.ranged, can_pass t.settings h t r.whole (sched_facts_of h t (life_shown h t r) r.sides) r.ranged);
 }
