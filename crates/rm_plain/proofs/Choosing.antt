@@ -1,40 +1,22 @@
 -- Which lane moves next: the one that the letters say, and behind them the first that is ready.
-use Rattle.rm_plain.proofs.Common.{ℕ, ◌≢◌, ◌⊎◌, inl, inr, ⊎_elim, List, [], ◌∷◌, ◌++◌, Bool, true, false, None, Some, Option, refl, sym, ◌∙◌, ap, subst, fold_push, same_Some, Entry, Lane, Client, Master, Node, Clock, Main, Sched, Hand, Write, End, Begin, Op, Close, Life, Script, lane_of_entry, Records, Place, close_left, Seen, as_new, is_blown, stands, HasNoWork, is_ready_at, DeskView}
-use Rattle.std.proofs.Common.{◌≡◌, if◌then◌else◌}
-use Rattle.std.specs.Prelude.{IfNone, find, is_some}
-use Rattle.rm_types.proofs.TestLemmas.{found_passes}
-use Rattle.rm_tables.specs.declared.tables.Tables.{Tables}
-use Rattle.rm_model.specs.Lawful.{place_after}
-use Rattle.rm_core.specs.Words.{manager_after}
-use Rattle.rm_core.proofs.Telling.{tables_told}
+use Rattle.rm_lives.proofs.Common.{ℕ, ◌≢◌, ⊎_elim, List, [], ◌∷◌, ◌++◌, Bool, true, false, None, Some, Option, refl, sym, ◌∙◌, ap, subst, fold_push, same_Some, Entry, Lane, Client, Master, Node, Clock, Main, Sched, Hand, Write, End, Begin, Op, Close, Life, Script, lane_of_entry, Place, close_left, Seen, as_new, stands, HasNoWork, is_ready_at, DeskView}
+use Rattle.std.proofs.Common.{◌≡◌, if◌then◌else◌, Err, Ok, Result}
+use Rattle.std.specs.Prelude.{IfErr, IfNone, IsOk, OnOk, find, is_some}
+use Rattle.rm_types.proofs.TestLemmas.{found_passes, on_ok_map}
 use Rattle.rm_desk.specs.Lanes.{IsWork}
 use Rattle.rm_desk.specs.Runs.{IsScriptRun as GoesAlong}
 use Rattle.rm_plain.specs.declared.schedule.Letter.{Letter}
 use Rattle.rm_plain.specs.declared.schedule.Letter.TheVariants.{Moves, Plain, Unknown}
 use Rattle.rm_plain.specs.declared.schedule.Step.{Step}
-use Rattle.rm_plain.specs.declared.halts.Halt.{Halt}
-use Rattle.rm_plain.specs.declared.halts.Halt.TheVariants.{DiskFault, Full, Schedule, Memory}
-use Rattle.rm_plain.specs.Order.{AllReady, HaltsHere, May, Order, StopsHere}
-use Rattle.rm_plain.specs.Policy.{first_ready, policy, run_after}
+use Rattle.rm_lives.specs.declared.halts.Halt.{Halt}
+use Rattle.rm_lives.specs.declared.halts.Stop.{Stop}
+use Rattle.rm_lives.specs.declared.halts.Stop.TheVariants as causes
+use Rattle.rm_lives.specs.declared.halts.Halt.TheVariants.{DiskFault, Full, Schedule, Memory}
+use Rattle.rm_lives.specs.Order.{HaltsHere, May, StopsHere, run_after}
+use Rattle.rm_lives.proofs.Finishing.{if_err}
+use Rattle.rm_lives.proofs.Ordering.{ready_told, split_push, told_by}
+use Rattle.rm_plain.specs.Policy.{first_ready, policy}
 use Rattle.rm_plain.specs.Schedule.{MovesBy, Stops, StopsAt, by_letters, chosen, letters_left, moved_by, used_by}
-
--- where an entry of a longer log stands: at its end, or among those before
-abbrev pub Among : List Entry → List Entry → Entry → Entry → Type 0
-Among log past e x = ((past ≡ log) × (x ≡ e)) ⊎ ((before : List Entry) × (log ≡ past ++ x ∷ before))
-
-pub none_split : (past : List Entry) (x : Entry) (more : List Entry) → [] ≡ past ++ x ∷ more → ⊥
-none_split [] x more h = cc
-none_split (y ∷ past) x more h = cc
-
-split_push : (log past : List Entry) (e x : Entry) (more : List Entry) → log ++ e ∷ [] ≡ past ++ x ∷ more → Among log past e x
-split_push [] [] e x more h = let same : e ≡ x = cc in inl (refl, sym same)
-split_push [] (y ∷ past) e x more h = let none : [] ≡ past ++ x ∷ more = cc in absurd (none_split past x more none)
-split_push (l ∷ log) [] e x more h = let same : l ≡ x = cc in inr (log, ap (λ (z : Entry). z ∷ log) same)
-split_push (l ∷ log) (y ∷ past) e x more h =
-    let same : l ≡ y = cc in
-    let rest : log ++ e ∷ [] ≡ past ++ x ∷ more = cc in
-    ⊎_elim (λ end. inl (ap (λ (z : Entry). z ∷ past) (sym same) ∙ ap (λ (zs : List Entry). l ∷ zs) end.0, end.1))
-    (λ before. inr (before.0, ap (λ (z : Entry). z ∷ log) same ∙ ap (λ (zs : List Entry). y ∷ zs) before.1)) (split_push log past e x more rest)
 
 -- a move leaves of the letters what it doesn't use up
 pub left_push : (steps : List Step) (log : List Entry) (e : Entry) → letters_left steps (log ++ e ∷ []) ≡ used_by (lane_of_entry e) (letters_left steps log)
@@ -44,53 +26,25 @@ pub left_none : (log : List Entry) → letters_left [] log ≡ []
 left_none [] = refl
 left_none (e ∷ log) = left_none log
 
--- an entry of a lane that was ready may be added
-ready_push : (new : Seen) (script : Script) (opening : List Op) (log : List Entry) (e : Entry) → AllReady new script opening log → is_ready_at (run_after new script opening log) (lane_of_entry e) ≡ true
-    → AllReady new script opening (log ++ e ∷ [])
-ready_push new script opening log e h ready = λ past x more is.
-    ⊎_elim (λ end. rw (end.0, end.1) ready) (λ before. h past x before.0 before.1) (split_push log past e x more is)
-
 -- an entry of the lane that was to move may be added
 moves_push : (steps : List Step) (new : Seen) (script : Script) (opening : List Op) (log : List Entry) (e : Entry) → MovesBy steps new script opening log
     → chosen (letters_left steps log) (run_after new script opening log) ≡ Some (lane_of_entry e) → MovesBy steps new script opening (log ++ e ∷ [])
 moves_push steps new script opening log e h next = λ past x more is.
     ⊎_elim (λ end. rw (end.0, end.1) next) (λ before. h past x before.0 before.1) (split_push log past e x more is)
 
--- what is told of a desk is told of the run after its log, where the store's records have no part in it
+-- so it is of what moves next
 module _ (opening : List Op) (script : Script) (d : DeskView) (run : GoesAlong opening script d) where
-  abbrev pub after_log : DeskView
+  abbrev after_log : DeskView
   after_log = run_after (as_new d.core) script opening d.core.log
-
-  abbrev at : Tables → Place → DeskView
-  at t place = record { core = record { settings = d.core.settings; tables = t; log = d.core.log }; place = place }
-
-  told_by : {X : Type 0} (of : DeskView → X) → ((t : Tables) (tree : Records) (place : Place) → of (at (record t { tree = tree }) place) ≡ of (at t place))
-      → of (at (manager_after (as_new d.core) opening d.core.log).tables (place_after script d.core.log)) ≡ of d
-  told_by of ignores =
-      let told = tables_told d.core opening run.stands in
-      let t = (manager_after (as_new d.core) opening d.core.log).tables in
-      ap (λ (p : Place). of (at t p)) run.along.at ∙ sym (ignores t told.tree d.place) ∙ ap (λ (x : Tables). of (at x d.place)) (sym told.is)
-
-  ready_told : (lane : Lane) → is_ready_at after_log lane ≡ is_ready_at d lane
-  ready_told Client = told_by (λ x. is_ready_at x Client) (λ t tree place. refl)
-  ready_told Master = told_by (λ x. is_ready_at x Master) (λ t tree place. refl)
-  ready_told Node = told_by (λ x. is_ready_at x Node) (λ t tree place. refl)
-  ready_told Clock = told_by (λ x. is_ready_at x Clock) (λ t tree place. refl)
-  ready_told Main = told_by (λ x. is_ready_at x Main) (λ t tree place. refl)
-  ready_told Sched = told_by (λ x. is_ready_at x Sched) (λ t tree place. refl)
-  ready_told Hand = told_by (λ x. is_ready_at x Hand) (λ t tree place. refl)
-  ready_told Write = told_by (λ x. is_ready_at x Write) (λ t tree place. refl)
-  ready_told End = told_by (λ x. is_ready_at x End) (λ t tree place. refl)
-  ready_told Begin = told_by (λ x. is_ready_at x Begin) (λ t tree place. refl)
 
   close_told : close_left after_log.place.segments ≡ close_left d.place.segments
   close_told = ap (λ (p : Place). close_left p.segments) run.along.at
 
   first_told : first_ready after_log ≡ first_ready d
-  first_told = told_by first_ready (λ t tree place. refl)
+  first_told = told_by opening script d run first_ready (λ t tree place. refl)
 
   moved_told : (letter : Letter) → moved_by letter after_log ≡ moved_by letter d
-  moved_told (Moves lane) = ap (λ (b : Bool). if b then Some lane else None) (ready_told lane)
+  moved_told (Moves lane) = ap (λ (b : Bool). if b then Some lane else None) (ready_told opening script d run lane)
   moved_told Plain =
       ap (λ (close : Option Close). if is_some close then first_ready after_log else None) close_told ∙ ap (λ (o : Option Lane). if is_some (close_left d.place.segments) then o else None) first_told
   moved_told Unknown = refl
@@ -114,20 +68,6 @@ letters_halt steps left d at DiskFault stops = absurd stops
 letters_halt steps left d at (Full needed room) stops = absurd stops
 letters_halt steps left d at (Schedule place) stops = letters_stop steps d place (subst (λ (l : List Step). StopsAt l d place) at stops)
 letters_halt steps left d at Memory stops = absurd stops
-
--- a lane that is ready may move by an order that asks for no more
-pub ready_may : (order : Order) (lane : Lane) (d : DeskView) → is_ready_at d lane ≡ true
-    → ((new : Seen) (script : Script) (opening : List Op) (log : List Entry) → AllReady new script opening log → order.keeps new script opening log)
-    → ((new : Seen) (script : Script) (opening : List Op) (log : List Entry) → order.keeps new script opening log → AllReady new script opening log)
-    → (order.rests → lane ≡ End → is_blown d.core ≡ false → HasNoWork d) → May order lane d
-ready_may order lane d ready is asks rests =
-    record {
-      keeps = λ opening script e run of_lane h.
-          is (as_new d.core) script opening (d.core.log ++ e ∷ [])
-          (ready_push (as_new d.core) script opening d.core.log e (asks (as_new d.core) script opening d.core.log h)
-          (ready_told opening script d run (lane_of_entry e) ∙ ap (λ (l : Lane). is_ready_at d l) of_lane ∙ ready));
-      rests = rests;
-    }
 
 -- where nothing else passes, the last of a list is found
 found_or : {X : Type 0} (b : Bool) (x y : X) (rest : Option X) → (b ≡ true → y ≡ x) → rest ≡ Some x → (if b then Some y else rest) ≡ Some x
@@ -231,7 +171,7 @@ letters_may steps d lane is =
     }
 
 -- where no life stands and one is left, it begins
-begin_chosen : (d : DeskView) → stands d.core ≡ false → d.place.lives ≢ [] → ((lane : Lane) → is_ready_at d lane ≡ true → lane ≡ Begin) → first_ready d ≡ Some Begin
+pub begin_chosen : (d : DeskView) → stands d.core ≡ false → d.place.lives ≢ [] → ((lane : Lane) → is_ready_at d lane ≡ true → lane ≡ Begin) → first_ready d ≡ Some Begin
 begin_chosen d dead lives only =
     find_only (is_ready_at d) Begin only (ready d.place.lives refl) (Main ∷ Sched ∷ Client ∷ Master ∷ Node ∷ Clock ∷ Hand ∷ Write ∷ End ∷ [])
   where
@@ -265,10 +205,23 @@ none_moved d none (Moves lane) = ap (λ (b : Bool). if b then Some lane else Non
 none_moved d none Plain = if_none (is_some (close_left d.place.segments)) (first_ready d) (found_none (is_ready_at d) none policy)
 none_moved d none Unknown = refl
 
--- where no life stands and none is left in the script, no lane is ready
-pub dead_over : (d : DeskView) → ((lane : Lane) → is_ready_at d lane ≡ true → lane ≡ Begin) → is_ready_at d Begin ≡ false → (lane : Lane) → is_ready_at d lane ≡ false
-dead_over d only begin lane = by (is_ready_at d lane) refl
-  where
-    by : (b : Bool) → is_ready_at d lane ≡ b → b ≡ false
-    by true ready = let is = only lane ready in let x = sym begin ∙ ap (λ (l : Lane). is_ready_at d l) (sym is) ∙ ready in cc
-    by false ready = refl
+-- so the run is at its end, where some lane is ready unless it is
+pub at_end : (d : DeskView) → first_ready d ≡ None → (b : Bool) → (b ≡ false → (lane : Lane) × (is_ready_at d lane ≡ true)) → b ≡ true
+at_end d h true some = refl
+at_end d h false some = let ready = some refl in let none = none_ready d h ready.0 in let x = sym none ∙ ready.1 in cc
+
+-- what is told of the letters that are left is told of the order that they give
+module _ (steps left : List Step) (d : DeskView) (at : left ≡ letters_left steps d.core.log) (r : Result (Unit {0}) Stop) where
+  pub used_as : OnOk r (left ≡ []) → OnOk r ((by_letters steps).ends d.core.log)
+  used_as used = on_ok_map r (λ none. sym at ∙ none) used
+
+  pub stops_as : IfErr r (λ stop. (place : ℕ) × (stop ≡ causes.Schedule place) × StopsAt left d place) → IfErr r (λ stop. (place : ℕ) × (stop ≡ causes.Schedule place) × StopsHere (by_letters steps) d place)
+  stops_as stops = if_err r (λ stop is. (is.0, is.1, letters_stop steps d is.0 (subst (λ (l : List Step). StopsAt l d is.0) at is.2))) stops
+
+  -- where none is left, none stops the run
+  pub all_used_up : IfErr r (λ stop. (place : ℕ) × (stop ≡ causes.Schedule place) × StopsAt left d place) → (by_letters steps).ends d.core.log → IsOk r
+  all_used_up stops none = by r stops
+    where
+      by : (x : Result (Unit {0}) Stop) → IfErr x (λ stop. (place : ℕ) × (stop ≡ causes.Schedule place) × StopsAt left d place) → IsOk x
+      by (Ok x) stops = refl
+      by (Err stop) stops = absurd (subst (λ (l : List Step). StopsAt l d stops.0) (at ∙ none) stops.2)

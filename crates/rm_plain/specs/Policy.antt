@@ -1,23 +1,13 @@
 -- The plain policy: each time the first lane that is ready moves, in this order.
 use Rattle.std.specs.Prelude.{List, [], ◌∷◌, Option, find}
-use Rattle.rm_types.specs.declared.entries.Entry.{Entry}
 use Rattle.rm_types.specs.declared.messages.Lane.{Lane}
 use Rattle.rm_types.specs.declared.messages.Lane.TheVariants.{Client, Master, Node, Clock, Main, Sched, Hand, Write, End, Begin}
-use Rattle.rm_types.specs.declared.operations.Op.{Op}
-use Rattle.rm_types.specs.declared.scripts.Script.{Script}
-use Rattle.rm_model.specs.Lawful.{place_after}
-use Rattle.rm_core.specs.Seen.{Seen}
-use Rattle.rm_core.specs.Words.{manager_after}
 use Rattle.rm_desk.specs.Lanes.{is_ready_at}
 use Rattle.rm_desk.specs.View.{DeskView}
 
 -- the queues before the feeds, the feeds before the store, and the script's own moves last
 abbrev pub policy : List Lane
 policy = Main ∷ Sched ∷ Client ∷ Master ∷ Node ∷ Clock ∷ Hand ∷ Write ∷ End ∷ Begin ∷ []
-
--- the run after a log: where a new manager comes to by its own way, and what is left of the script
-abbrev pub run_after : Seen → Script → List Op → List Entry → DeskView
-run_after new script opening log = record { core = manager_after new opening log; place = place_after script log }
 
 -- the first lane that is ready, in this order
 abbrev pub first_ready : DeskView → Option Lane

@@ -13,14 +13,15 @@ use Rattle.rm_model.specs.Place.{close_left}
 use Rattle.rm_core.specs.Seen.{Seen}
 use Rattle.rm_desk.specs.Lanes.{is_ready_at}
 use Rattle.rm_desk.specs.View.{DeskView}
-use Rattle.rm_plain.specs.declared.halts.Halt.{Halt}
-use Rattle.rm_plain.specs.declared.halts.Halt.TheVariants as halts
+use Rattle.rm_lives.specs.declared.halts.Halt.{Halt}
+use Rattle.rm_lives.specs.declared.halts.Halt.TheVariants as halts
 use Rattle.rm_plain.specs.declared.schedule.TheConstants.{MOST_SCHEDULED}
 use Rattle.rm_plain.specs.declared.schedule.Letter.{Letter}
 use Rattle.rm_plain.specs.declared.schedule.Letter.TheVariants.{Moves, Plain, Unknown}
 use Rattle.rm_plain.specs.declared.schedule.Step.{Step}
-use Rattle.rm_plain.specs.Order.{Order}
-use Rattle.rm_plain.specs.Policy.{first_ready, policy, run_after}
+use Rattle.rm_lives.specs.Order.{Order}
+use Rattle.rm_lives.specs.Order.{run_after}
+use Rattle.rm_plain.specs.Policy.{first_ready, policy}
 
 -- how many bytes of a schedule may have letters
 abbrev pub most_scheduled : ℕ

@@ -1,35 +1,20 @@
-//! A run of a script on one thread: the desk, the store on the handed device, and a schedule, whose letters say which
-//! lane moves next. After its end the plain policy moves the first lane that is ready, each time.
+//! A run of a script on one thread, by a schedule, whose letters say which lane moves next. After its end the plain policy moves
+//! the first lane that is ready, each time.
 //!
-//! It promises that the log goes along the script, that each move is of the lane that the schedule or the policy says,
-//! that a letter which can't be followed stops the run at its place, that a run ends, that at its end the script is at its end
-//! and nothing awaits or is owed, that at every moment a crash leaves on the device what is kept, or this and the
-//! operation that awaits, and that such a device opens again.
+//! It promises, beside what each run does (`HasRun` of `rm_lives`), that each move is of the lane that the schedule or the policy
+//! says, that a letter which can't be followed stops the run at its place, and that a run ends.
 //!
-//! A run whose lanes are moved otherwise begins its lives and leaves them by the same calls (`open_first`, `open_again`, `begin_life`, `leave`),
-//! over an order of its own.
-//!
-//! It stands on `rm_desk`, on `rm_store`, and on the definitions of `rm_model`.
+//! It stands on `rm_lives`, for how lives begin, move, halt and end.
 #![tactic(auto)]
 
-mod halts;
-mod laws;
+mod feeding;
+mod growing_run;
 mod lives;
-mod order;
 mod policy;
-mod refusals;
 mod runs;
 mod schedule;
-mod starts;
-mod storing;
 
-pub use halts::{Halt, Stop};
-pub use laws::law_opens_again;
-pub use lives::{LifeEnd, run_life};
-pub use order::Ordered;
-pub use runs::{Run, run_script};
+pub use growing_run::{BeginFail, GrowingRun};
+pub use lives::run_life;
+pub use runs::run_script;
 pub use schedule::{Letter, MOST_SCHEDULED, Schedule, Step, letter_of};
-pub use starts::{
-    Lived, Unfounded, Unopened, begin_life, leave, open_again, open_first, stop_at_open,
-};
-pub use storing::halt_of;

@@ -1,46 +1,31 @@
-ghost use Rattle.std.specs.Prelude.{◌≡◌, ◌≢◌, ◌⊎◌, ◌++◌, ◌<◌, ℕ, [], length, IsOk, IfErr, OnOk, None, Some, true, false};
-ghost use Rattle.rm_disk.specs.Disk.{IsQuiet, IfTold};
-ghost use Rattle.rm_store.specs.Content.{HasContent};
+//! The lives of a script, one after another, on one thread.
+ghost use Rattle.std.specs.Prelude.{◌≡◌, ◌≢◌, ◌⊎◌, ◌<◌, ℕ, [], length, IfErr, OnOk, None, Some, true, false};
+ghost use Rattle.rm_types.specs.declared.messages.Lane.{Lane};
+ghost use Rattle.rm_types.specs.Records.{stray};
+ghost use Rattle.rm_store.specs.Store.{StoreInvariant as IsStoreSound, seen};
 ghost use Rattle.rm_queues.specs.Rules.{KeepsRules};
 ghost use Rattle.rm_invariant.specs.messages.Ranges.{KeepsLimits};
-ghost use Rattle.rm_model.specs.Downs.{AllGoDownAtRest};
-ghost use Rattle.rm_model.specs.Lawful.{Lawful, IsDone};
-ghost use Rattle.rm_model.specs.State.{opening_state};
+ghost use Rattle.rm_core.specs.Moves.{CanBeginOver, IsLeftAfter, IsOwn};
 ghost use Rattle.rm_core.specs.Words.{new_manager, stands};
-ghost use Rattle.rm_types.specs.declared.messages.Lane.{Lane};
 ghost use Rattle.rm_desk.specs.Lanes.{is_ready_at};
 ghost use Rattle.rm_desk.specs.Scripts.{CanGoAlong};
-ghost use Rattle.rm_plain.specs.Goes.{IsOver};
-ghost use Rattle.rm_types.specs.Records.{records, stray};
-ghost use Rattle.rm_plain.specs.Survives.{SurvivesAll, SurvivesNow};
-ghost use Rattle.rm_store.specs.Store.{seen};
-ghost use Rattle.rm_plain.specs.Falls.{falls_of};
-ghost use Rattle.rm_plain.specs.Later.{FirstTo, LaterTo};
-ghost use Rattle.rm_plain.specs.Opens.{StartsOver};
-ghost use Rattle.rm_plain.specs.Policy.{run_after};
-ghost use Rattle.rm_plain.specs.Schedule.{IsAt, MovesBy, StopsAt, chosen, letters_left, course_left, order_of, steps_of};
-ghost use Rattle.rm_plain.specs.declared.halts.Stop.{Stop};
-ghost use Rattle.rm_plain.specs.Starts.{DiskStays, IsAtEase};
-ghost use Rattle.rm_plain.specs.Stops.{IsDue, IsStoppedBy};
-ghost use Rattle.rm_plain.specs.Whole.{AllLived};
+ghost use Rattle.rm_lives.specs.declared.halts.Stop.{Stop};
+ghost use Rattle.rm_lives.specs.Goes.{IsOver};
+ghost use Rattle.rm_lives.specs.Keeping.{IsFoundOn};
+ghost use Rattle.rm_lives.specs.Later.{FirstTo, LaterTo};
+ghost use Rattle.rm_lives.specs.Starts.{IsAtEase, LivesTo};
+ghost use Rattle.rm_lives.specs.Whole.{AllLived, HasRun};
+ghost use Rattle.rm_plain.specs.Schedule.{IsAt, StopsAt, by_letters, chosen, course_left, order_of, steps_of};
 
-use crate::halts::Stop;
+use crate::lives::run_life;
 use crate::schedule::Schedule;
-use crate::starts::{Lived, Unfounded, Unopened, live, open_again, open_first};
 use rm_desk::Desk;
 use rm_disk::{Disk, Fuse};
-use rm_types::{Entry, Items, Lane, Op, Script, Settings};
+use rm_lives::{Lived, Run, Stop, Unfounded, Unopened, begin_life, leave, open_again, open_first};
+use rm_store::Store;
+use rm_tree::Tree;
+use rm_types::{Items, Lane, Op, Script, Settings};
 use std::alloc::Global;
-
-/// A run of a script: what the disk held when it was first opened, the log, the disk as it was left, and
-/// whether the run came to its end.
-#[derive(Drop)]
-pub struct Run<D: Disk> {
-    pub opening: Items<Op>,
-    pub log: Items<Entry>,
-    pub disk: Fuse<D>,
-    pub ended: Result<(), Stop>,
-}
 
 /// How the first life went, and what its disk held before.
 #[derive(Drop)]
@@ -48,6 +33,35 @@ struct First<D: Disk> {
     opening: Items<Op>,
     disk: Fuse<D>,
     ended: Result<(), Stop>,
+}
+
+/// A life begins over what the last one left in the store, and lives to its end; where it went down, its device has fallen.
+fn live<D: Disk>(d: &mut Desk, store: Store<D>, schedule: &mut Schedule<'_>, tree: Tree) -> Lived<D>
+    requires at { IsAt schedule.old d.old.core.log }
+    requires chosen { chosen (course_left schedule.old) d.old ≡ Some Lane.Begin }
+    requires dead { stands d.old.core ≡ false }
+    requires lives { d.old.place.lives ≢ [] }
+    requires over { CanBeginOver tree }
+    requires own { IsOwn d.old.core tree }
+    requires store { IsStoreSound D.view store }
+    requires unbroken { store.is_broken ≡ false }
+    requires unarmed { store.disk.armed ≡ None }
+    requires unblown { store.disk.blown ≡ false }
+    ensures whole { schedule.new.whole ≡ schedule.old.whole }
+    ensures at { OnOk result.ended (IsAt schedule.new d.new.core.log) }
+    ensures used { OnOk result.ended (stands d.new.core ≡ true → course_left schedule.new ≡ []) }
+    ensures lived { LivesTo (order_of schedule.old) D.view (λ opening. IsLeftAfter tree opening d.old.core.log) (λ opening. IsFoundOn opening d.old.core tree (seen D.view store.disk)) d.old d.new store.disk result.disk result.ended }
+    ensures fewer { OnOk result.ended (length d.new.place.lives < length d.old.place.lives) }
+{
+    let mut store = store;
+    match begin_life(d, &mut store, schedule, tree) {
+        Ok(()) => {
+            schedule.pass(Lane::Begin);
+            let ended = run_life(d, &mut store, schedule);
+            leave(store, ended)
+        }
+        Err(halt) => leave(store, Err(halt)),
+    }
 }
 
 /// The first life of a script, over whatever its disk holds.
@@ -251,25 +265,7 @@ pub fn run_script<D: Disk>(
     requires queues { KeepsRules settings }
     requires limits { KeepsLimits settings }
     requires unarmed { disk.armed ≡ None }
-    ensures lawful { Lawful settings script result.opening result.log }
-    ensures done { IsOk result.ended → IsDone settings script result.opening result.log }
-    ensures moves { MovesBy (steps_of schedule.now) (new_manager alloc settings) script result.opening result.log }
-    ensures used { OnOk result.ended (letters_left (steps_of schedule.now) result.log ≡ []) }
-    ensures downs { steps_of schedule.now ≡ [] → AllGoDownAtRest settings (opening_state result.opening) result.log }
-    ensures falls { result.disk.falls ≡ disk.falls ++ falls_of script result.opening result.log }
-    ensures stays { DiskStays D.view disk result.disk }
-    ensures unarmed { result.disk.armed ≡ None }
-    ensures unblown { disk.blown ≡ false → result.disk.blown ≡ false }
-    ensures idle { script.lives ≡ [] → (result.log ≡ []) × (result.disk ≡ disk) × (steps_of schedule.now ≡ [] → IsOk result.ended) }
-    ensures begun { script.lives ≢ [] → OnOk result.ended (result.log ≢ []) }
-    ensures opening { result.log ≢ [] → IfTold (seen D.view disk) (λ bytes. HasContent bytes result.opening) }
-    ensures found { (result.opening ≡ []) ⊎ IfTold (seen D.view disk) (λ bytes. HasContent bytes result.opening) }
-    ensures read_back { stray result.opening ≡ None }
-    ensures quiet { result.log ≡ [] → IsQuiet (seen D.view disk) (seen D.view result.disk) }
-    ensures images { SurvivesAll result.opening result.log (seen D.view disk) (seen D.view result.disk) }
-    ensures images_now { SurvivesNow result.opening result.log (seen D.view disk) (seen D.view result.disk) }
-    ensures starts { StartsOver (seen D.view disk) result.log result.ended }
-    ensures stopped { IfErr result.ended (IsStoppedBy D.view (IsDue script result.opening result.log) (StopsAt (letters_left (steps_of schedule.now) result.log) (run_after (new_manager alloc settings) script result.opening result.log)) disk result.disk result.opening result.log) }
+    ensures ran { HasRun (by_letters (steps_of schedule.now)) D.view (new_manager alloc settings) settings script disk result.disk result.opening result.log result.ended }
 {
     let Ok(mut d) = Desk::new(alloc, settings, script) else {
         unreachable!()

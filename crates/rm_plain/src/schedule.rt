@@ -2,10 +2,10 @@ ghost use Rattle.std.specs.Prelude.{◌≡◌, ◌≤◌, ◌+◌, ◌^◌, ◌�
 ghost use Rattle.rm_plain.specs.declared.schedule.Step.{Step};
 ghost use Rattle.rm_plain.specs.Schedule.{Stops, chosen, course_left, letter_at, letter_of, most_scheduled, moved_by, steps_from, used_by};
 
-use crate::halts::Halt;
 use crate::policy::first_ready;
 use rm_desk::Desk;
 use rm_formats::MOST_FILE_BYTES;
+use rm_lives::Halt;
 use rm_types::Lane;
 use std::marker::Model;
 

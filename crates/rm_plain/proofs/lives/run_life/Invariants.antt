@@ -1,8 +1,8 @@
-use Rattle.rm_plain.proofs.Common.{[], true, List, Op, seen, stands}
+use Rattle.rm_lives.proofs.Common.{[], true, List, Op, seen, stands}
 use Rattle.std.proofs.Common.{◌≡◌}
 use Rattle.rm_desk.specs.Runs.{moves_left}
-use Rattle.rm_plain.specs.Goes.{ExtendsRun}
-use Rattle.rm_plain.specs.Keeping.{FuseStays, Serves, StoresOn}
+use Rattle.rm_lives.specs.Goes.{ExtendsRun}
+use Rattle.rm_lives.specs.Keeping.{FuseStays, Serves, StoresOn}
 use Rattle.rm_plain.specs.Schedule.{IsAt, order_of}
 use Rattle.rm_plain.proofs.lives.run_life.Given as goal
 

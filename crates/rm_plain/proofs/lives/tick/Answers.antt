@@ -1,12 +1,12 @@
-use Rattle.rm_plain.proofs.Common.{ℕ, List, [], None, Err, sym, ◌∙◌, ap, err_from_is_err_and, Entry, Lane}
+use Rattle.rm_lives.proofs.Common.{ℕ, List, [], None, Err, sym, ◌∙◌, ap, err_from_is_err_and, Entry, Lane}
 use Rattle.std.proofs.Common.{◌≡◌}
-use Rattle.rm_plain.specs.declared.halts.Halt.{Halt}
+use Rattle.rm_lives.specs.declared.halts.Halt.{Halt}
 use Rattle.rm_plain.specs.declared.schedule.Step.{Step}
 use Rattle.rm_plain.specs.Policy.{first_ready}
 use Rattle.rm_plain.specs.Schedule.{by_letters, chosen, letters_left, course_left, steps_of, used_by}
-use Rattle.rm_plain.proofs.Choosing.{chosen_ready, left_push, letters_halt, letters_may}
-use Rattle.rm_plain.proofs.Ending.{at_end, comes_to_rest}
-use Rattle.rm_plain.proofs.Halting.{halts_as, halts_here}
+use Rattle.rm_plain.proofs.Choosing.{at_end, chosen_ready, left_push, letters_halt, letters_may}
+use Rattle.rm_lives.proofs.Ending.{comes_to_rest}
+use Rattle.rm_lives.proofs.Halting.{halts_as, halts_here}
 use Rattle.rm_plain.proofs.lives.tick.Goals as goal
 
 pub advance-requires-clause-ready : goal.advance-requires-clause-ready
@@ -25,9 +25,9 @@ returns-in_err-lane-clause-halts g c =
     (halts_here g.D.Disk.view (by_letters (steps_of c.args.schedule.now.whole)) c.args.d.now c.args.store.now.disk c.in_err-lane.field-0.0
     (letters_halt (steps_of c.args.schedule.now.whole) (course_left c.args.schedule.now) c.args.d.now c.requires.at c.in_err-lane.field-0.0 c.in_err-lane.ensures.stops)))
 
-pub returns-in_ok-moved-in-Some-clause-at : goal.returns-in_ok-moved-in-Some-clause-at
-returns-in_ok-moved-in-Some-clause-at g c =
-    let one = c.in_ok-moved-in-Some.ensures.one in
+pub returns-in_ok-down-in-Some-clause-at : goal.returns-in_ok-down-in-Some-clause-at
+returns-in_ok-down-in-Some-clause-at g c =
+    let one = c.in_ok-down-in-Some.ensures.one in
     let steps = steps_of c.args.schedule.now.whole in
     c.pass.ensures.left ∙ ap (λ (left : List Step). used_by c.in-Some.lane left) c.requires.at
     ∙ ap (λ (lane : Lane). used_by lane (letters_left steps c.args.d.now.core.log)) (sym one.1)

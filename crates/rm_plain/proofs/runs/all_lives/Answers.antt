@@ -1,8 +1,9 @@
-use Rattle.rm_plain.proofs.Common.{ℕ, List, inr, subst, sym, ◌∙◌, OnOk}
-use Rattle.rm_plain.specs.Later.{FirstTo, LaterTo}
+use Rattle.rm_lives.proofs.Common.{ℕ, List, inr, subst, sym, ◌∙◌, OnOk}
+use Rattle.rm_lives.specs.Later.{FirstTo, LaterTo}
 use Rattle.rm_plain.specs.Schedule.{by_letters, course_left, order_of, steps_of}
-use Rattle.rm_plain.proofs.Choosing.{chosen_begin, dead_over, letters_halt}
-use Rattle.rm_plain.proofs.Finishing.{all_lived, all_used_up, first_stops, none_lived, none_left, refused_first, some_left, stops_as, used_as}
+use Rattle.rm_lives.proofs.Ordering.{dead_over}
+use Rattle.rm_plain.proofs.Choosing.{all_used_up, chosen_begin, letters_halt, stops_as, used_as}
+use Rattle.rm_lives.proofs.Finishing.{all_lived, first_stops, none_lived, none_left, refused_first, some_left}
 use Rattle.rm_plain.proofs.runs.all_lives.Goals as goal
 
 pub all_used-requires : goal.all_used-requires

@@ -1,4 +1,4 @@
-use Rattle.rm_plain.proofs.Common.{◌⊎◌, inl, inr, List, [], ◌∷◌, false, refl, sym, ◌∙◌, subst, Lane, is_ready_at, DeskView}
+use Rattle.rm_lives.proofs.Common.{◌⊎◌, inl, inr, List, [], ◌∷◌, false, refl, sym, ◌∙◌, subst, Lane, is_ready_at, DeskView}
 use Rattle.std.proofs.Common.{◌≡◌}
 use Rattle.rm_plain.specs.Schedule.{StopsAt, course_left}
 use Rattle.rm_plain.specs.declared.schedule.Step.{Step}

@@ -1,4 +1,4 @@
-use Rattle.rm_plain.proofs.Onward.{first_to, own_first, unfounded_stops}
+use Rattle.rm_lives.proofs.Onward.{first_to, own_first, unfounded_stops}
 use Rattle.rm_plain.proofs.runs.first_life.Goals as goal
 
 pub returns-in-Ok-clause-first : goal.returns-in-Ok-clause-first

@@ -1,11 +1,12 @@
-use Rattle.rm_plain.proofs.Common.{◌⊎◌, ℕ, List, [], Bool, true, false, Err, Ok, inl, inr, refl, sym, ◌∙◌, ap, subst, Lane, Begin, stands, is_ready_at, DeskView}
+use Rattle.rm_lives.proofs.Common.{◌⊎◌, ℕ, List, [], Bool, true, false, Err, Ok, inl, inr, refl, sym, ◌∙◌, ap, subst, Lane, Begin, stands, is_ready_at, DeskView}
 use Rattle.std.proofs.Common.{◌≡◌}
-use Rattle.rm_plain.specs.Later.{LaterTo}
+use Rattle.rm_lives.specs.Later.{LaterTo}
 use Rattle.rm_plain.specs.Schedule.{by_letters, letters_left, course_left, order_of, steps_of}
 use Rattle.rm_plain.specs.declared.schedule.Step.{Step}
-use Rattle.rm_plain.proofs.Choosing.{chosen_begin, dead_over, letters_halt}
-use Rattle.rm_plain.proofs.Finishing.{none_stands, some_left, stops_as}
-use Rattle.rm_plain.proofs.Onward.{lives_end, lives_same, lives_trans, order_stops, stops_after}
+use Rattle.rm_lives.proofs.Ordering.{dead_over}
+use Rattle.rm_plain.proofs.Choosing.{chosen_begin, letters_halt, stops_as}
+use Rattle.rm_lives.proofs.Finishing.{none_stands, some_left}
+use Rattle.rm_lives.proofs.Onward.{lives_end, lives_same, lives_trans, order_stops, stops_after}
 use Rattle.rm_plain.proofs.runs.later_lives.Goals as goal
 
 pub lives-init : goal.lives-init

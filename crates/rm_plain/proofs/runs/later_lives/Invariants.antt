@@ -1,8 +1,8 @@
-use Rattle.rm_plain.proofs.Common.{◌≢◌, [], true, seen, stands}
+use Rattle.rm_lives.proofs.Common.{◌≢◌, [], true, seen, stands}
 use Rattle.std.proofs.Common.{◌≡◌, length}
-use Rattle.rm_plain.specs.Keeping.{IsKeptOn}
+use Rattle.rm_lives.specs.Keeping.{IsKeptOn}
 use Rattle.rm_plain.specs.Schedule.{IsAt, course_left, order_of}
-use Rattle.rm_plain.specs.Starts.{IsAtEase, Lives}
+use Rattle.rm_lives.specs.Starts.{IsAtEase, Lives}
 use Rattle.rm_plain.proofs.runs.later_lives.Given as goal
 
 abbrev pub invariant-lives : goal.invariant-lives

@@ -1,4 +1,4 @@
-use Rattle.rm_plain.proofs.Onward.{again_to, stopped_before}
+use Rattle.rm_lives.proofs.Onward.{again_to, stopped_before}
 use Rattle.rm_plain.proofs.runs.next_life.Goals as goal
 
 pub returns-in-Ok-clause-later : goal.returns-in-Ok-clause-later

@@ -1,0 +1,12 @@
+pub mod Common
+pub mod Longer
+pub mod Ordering
+pub mod Moving
+pub mod Stored
+pub mod Ending
+pub mod Starting
+pub mod Onward
+pub mod Finishing
+pub mod Halting
+pub mod Parts
+pub mod Completing

@@ -1,0 +1,36 @@
+pub use Rattle.rm_types.specs.Ids
+pub use Rattle.rm_types.specs.Lanes as EntryLanes
+pub use Rattle.rm_types.specs.Lists
+pub use Rattle.rm_types.specs.Records
+pub use Rattle.rm_model.specs.State
+pub use Rattle.rm_model.specs.Facts
+pub use Rattle.rm_model.specs.ClientReplies
+pub use Rattle.rm_model.specs.Replies
+pub use Rattle.rm_model.specs.Changes
+pub use Rattle.rm_model.specs.Owed
+pub use Rattle.rm_model.specs.Rules
+pub use Rattle.rm_model.specs.Place
+pub use Rattle.rm_model.specs.Lawful
+pub use Rattle.rm_core.specs.Invariant
+pub use Rattle.rm_core.specs.Moves
+pub use Rattle.rm_core.specs.Seen
+pub use Rattle.rm_core.specs.Words
+pub use Rattle.rm_desk.specs.View
+pub use Rattle.rm_desk.specs.Scripts
+pub use Rattle.rm_desk.specs.Lanes as DeskLanes
+pub use Rattle.rm_desk.specs.Runs
+pub use Rattle.rm_desk.specs.Effects
+pub mod Halted
+pub mod Order
+pub mod Falls
+pub mod Survives
+pub mod Keeping
+pub mod Goes
+pub mod Lives
+pub mod Stops
+pub mod Opens
+pub mod Starts
+pub mod Later
+pub mod Whole
+pub mod Parts
+pub mod Complete

@@ -1,0 +1,25 @@
+use Rattle.rm_plain.specs.Feeding.{by_policy}
+use Rattle.rm_lives.proofs.Parts.{again_runs}
+use Rattle.rm_plain.proofs.FedRuns.{begun_up, due_may, later_halted, later_unopened}
+use Rattle.rm_plain.proofs.feeding.start_again.Goals as goal
+
+pub begin_life-requires-clause-may : goal.begin_life-requires-clause-may
+begin_life-requires-clause-may g c = due_may c.args.d.now c.requires.due (c.law.ensures.dead c.requires.due.dead)
+
+pub returns-in-Ok-begin_life-clause-up : goal.returns-in-Ok-begin_life-clause-up
+returns-in-Ok-begin_life-clause-up g c = begun_up g.D.Disk.view c.args.d.now c.begin_life.new.d c.in-Ok.opened.1 c.begin_life.new.store c.requires.due c.in-Ok-begin_life.ensures.takes_up c.in-Ok-begin_life.ensures.begun.serves
+
+pub returns-in-Ok-begin_life-clause-runs : goal.returns-in-Ok-begin_life-clause-runs
+returns-in-Ok-begin_life-clause-runs g c = λ opening script first r.
+    again_runs by_policy g.D.Disk.view opening script first c.args.disk c.args.d.now c.begin_life.new.d c.in-Ok.opened.0 c.begin_life.new.store c.in-Ok.opened.1 c.in-Ok.ensures.again c.begin_life.ensures.goes c.in-Ok-begin_life.ensures.begun
+    c.begin_life.ensures.fuse r
+
+pub returns-in-Err-clause-stopped : goal.returns-in-Err-clause-stopped
+returns-in-Err-clause-stopped g c = later_unopened g.D.Disk.view c.args.d.now c.requires.due c.args.disk c.in-Err.none.disk c.in-Err.none.why c.in-Err.ensures.given_back c.in-Err.ensures.why
+
+pub returns-in-Err-begin_life-clause-stopped : goal.returns-in-Err-begin_life-clause-stopped
+returns-in-Err-begin_life-clause-stopped g c =
+    let h = c.in-Err-begin_life.ensures in
+    rw c.from.ensures
+    (later_halted g.D.Disk.view c.args.d.now c.requires.due c.begin_life.new.d c.args.disk c.leave.result.disk c.in-Ok.opened.0 c.begin_life.new.store c.in-Ok.opened.1 c.in-Err-begin_life.halt c.in-Ok.ensures.again h.halts h.inner h.refused h.fuse
+    c.leave.ensures.0 h.memory)
