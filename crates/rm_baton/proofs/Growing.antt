@@ -1,8 +1,8 @@
 -- Lemmas on beginnings of a log, and on logs that grow by entries that any pass may add.
-use Rattle.std.proofs.Common.{◌≡◌, List, [], ◌∷◌, ◌++◌, sym, ap, ◌∙◌, append_assoc, append-nil}
+use Rattle.std.proofs.Common.{List, [], ◌∷◌, ◌++◌, inl, inr, sym, ap, ◌∙◌, append_assoc, append-nil}
 use mathlib.Core.List.{IsPrefix}
 use Rattle.rm_types.specs.declared.entries.Entry.{Entry}
-use Rattle.rm_baton.specs.Entries.{AddsCommon, AllCommon, IsCommon}
+use Rattle.rm_baton.specs.Entries.{AddsAtMostOne, AddsCommon, AllCommon}
 use Rattle.rm_baton.specs.Views.{AllBegin}
 
 pub prefix_same : (log : List Entry) → IsPrefix log log
@@ -10,6 +10,11 @@ prefix_same log = ([], append-nil log)
 
 pub prefix_more : (a b c : List Entry) → IsPrefix a b → IsPrefix b c → IsPrefix a c
 prefix_more a b c p q = (p.0 ++ q.0, sym (append_assoc a p.0 q.0) ∙ ap (λ (l : List Entry). l ++ q.0) p.1 ∙ q.1)
+
+-- a log begins the one that has one entry more at most
+pub prefix_one : (a b : List Entry) → AddsAtMostOne a b → IsPrefix a b
+prefix_one a b (inl same) = ([], append-nil a ∙ sym same)
+prefix_one a b (inr more) = (more.0 ∷ [], sym more.1)
 
 -- logs that begin one begin each that it begins
 pub AllBegin-more : (logs : List (List Entry)) (a b : List Entry) → AllBegin logs a → IsPrefix a b → AllBegin logs b

@@ -9,12 +9,12 @@ use std::alloc::Global;
 use std::sync::Wait;
 
 /// A worker's token, which has no bytes. What it knows, its view, is a `Known`.
-pub type Pass<T> = crossbeam_queue::Pass<T, Known<<T as Carries>::Run>>;
+pub type Pass<T> = crossbeam_queue::Pass<T, Known<<T as Carries>::Run, T>>;
 
 /// A place for one value. The worker that took the value out has the baton until it puts it back.
 #[derive(Drop)]
 pub struct Baton<T: Carries> {
-    queue: RuledArrayQueue<T, Known<T::Run>, Carrying>,
+    queue: RuledArrayQueue<T, Known<T::Run, T>, Carrying>,
     ghost one: { ruled_capacity queue ≡ 1 },
 }
 
@@ -29,7 +29,7 @@ impl<T: Carries> Baton<T> {
         ensures pass { IfOk result (λ made. view made.1 ≡ started T.run T.log held) }
         ensures back { IfErr result (λ value. value ≡ held) }
     {
-        match RuledArrayQueue::<T, Known<T::Run>, Carrying>::ruled(alloc, 1) {
+        match RuledArrayQueue::<T, Known<T::Run, T>, Carrying>::ruled(alloc, 1) {
             Ok((queue, mut pass)) => match queue.try_push_as::<Starts>(&mut pass, held) {
                 Ok(()) => Ok((Baton { queue }, pass)),
                 Err(held) => Err(held),
@@ -43,6 +43,7 @@ impl<T: Carries> Baton<T> {
     ///
     /// `None` where the value was out at a moment of the call, and then the pass is as it was. The only pass that is
     /// left, which has all parts, gets the value.
+    #[inline(never)]
     pub fn take<R: Wait>(&self, rt: &R, pass: &mut Pass<T>) -> Option<T>
         requires of { IsPassOf self.now pass.old }
         requires idle { IsIdle (view pass.old) }
@@ -55,8 +56,9 @@ impl<T: Carries> Baton<T> {
         self.queue.pop_as::<Takes, R>(rt, pass)
     }
 
-    /// Puts a value in the place of the one that this pass took: it is of the same run, the taken log begins its log, and
-    /// a pass that isn't the store's added common entries only. It takes no memory, and is never refused.
+    /// Puts a value in the place of the one that this pass took: it is of the same run, its log is the taken one, or that and
+    /// one entry, and a pass that isn't the store's added a common entry only. It takes no memory, and is never refused.
+    #[inline(never)]
     pub fn put<R: Wait>(&self, rt: &R, pass: &mut Pass<T>, held: T)
         requires of { IsPassOf self.now pass.old }
         requires may { MayPut T.run T.log (view pass.old) held }

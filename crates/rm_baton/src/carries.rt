@@ -17,7 +17,7 @@ pub trait Carries: Drop {
 }
 
 /// What a pass knows. It stands in contracts alone: no value of it is made.
-pub struct Known<Run> {
+pub struct Known<Run, T> {
     /// The run of its baton. A pass that has ended has none.
     pub run: Option<Run>,
     /// The logs that it has seen, which are those that it took, put or was told of.
@@ -30,4 +30,8 @@ pub struct Known<Run> {
     pub store: bool,
     /// Its parts, of the 2^63 that all passes have together.
     pub parts: u64,
+    /// The value that it took last.
+    pub taken: Option<T>,
+    /// The value that it put last.
+    pub given: Option<T>,
 }

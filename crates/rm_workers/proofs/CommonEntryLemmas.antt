@@ -1,5 +1,5 @@
 -- What entries of the common kinds leave as it is.
-use Rattle.std.proofs.Common.{◌≡◌, List, [], ◌∷◌, ◌++◌, Bool, Option, None, Some, slice_get, refl, sym, ◌∙◌, subst}
+use Rattle.std.proofs.Common.{◌≡◌, List, [], ◌∷◌, Bool, Option, None, Some, slice_get, refl, sym, ◌∙◌, subst}
 use Rattle.std.proofs.lemmas.List.Sums.{fold-append}
 use Rattle.rm_types.specs.declared.entries.Entry.{Entry}
 use Rattle.rm_types.specs.declared.entries.Entry.TheVariants.{Opened, Issued, Handed, Kept, Blown, Served, Settled, Down}
@@ -11,8 +11,8 @@ use Rattle.rm_model.specs.State.{LifeState, Manager, opening_state, scene}
 use Rattle.rm_baton.specs.Entries.{AddsCommon, AllCommon, IsCommon}
 use Rattle.rm_workers.specs.Still.{SameLife, Still}
 use Rattle.rm_model.proofs.Served.{of_issued, of_served}
-use Rattle.rm_plain.proofs.Moving.{close_without}
-use Rattle.rm_plain.proofs.Longer.{first_more}
+use Rattle.rm_lives.proofs.Moving.{close_without}
+use Rattle.rm_lives.proofs.Longer.{first_more}
 
 -- THE STATE
 

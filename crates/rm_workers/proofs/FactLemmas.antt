@@ -17,11 +17,11 @@ use Rattle.rm_desk.specs.View.{DeskView}
 use Rattle.rm_baton.specs.Entries.{AddsCommon, AllCommon, IsCommon}
 use Rattle.rm_workers.specs.Still.{SameLife, Still}
 use Rattle.rm_workers.proofs.CommonEntryLemmas.{close_still, state_still}
-use Rattle.rm_plain.specs.declared.halts.Halt.{Halt}
-use Rattle.rm_plain.specs.declared.halts.Halt.TheVariants.{DiskFault, Full, Schedule, Memory}
-use Rattle.rm_plain.specs.Keeping.{IsFullFor, KeepsOn, LeavesOn, armed_by, blown_in, has_blown}
-use Rattle.rm_plain.specs.Survives.{HoldsKept, HoldsWithin}
-use Rattle.rm_plain.proofs.Stored.{holds_on, within_longer}
+use Rattle.rm_lives.specs.declared.halts.Halt.{Halt}
+use Rattle.rm_lives.specs.declared.halts.Halt.TheVariants.{DiskFault, Full, Schedule, Memory}
+use Rattle.rm_lives.specs.Keeping.{IsFullFor, KeepsOn, LeavesOn, armed_by, blown_in, has_blown}
+use Rattle.rm_lives.specs.Survives.{HoldsKept, HoldsWithin}
+use Rattle.rm_lives.proofs.Stored.{holds_on, within_longer}
 use Rattle.rm_workers.specs.declared.turns.End.{End}
 use Rattle.rm_workers.specs.declared.turns.End.TheVariants as ends
 use Rattle.rm_workers.specs.Began.{Began, seen_then}

@@ -9,17 +9,17 @@ use Rattle.rm_store.specs.Store.{StoreState, seen}
 use Rattle.rm_core.specs.Words.{stands}
 use Rattle.rm_desk.specs.Runs.{IsScriptOver as IsDeskOver, IsPlaceSound as IsDeskSound}
 use Rattle.rm_desk.specs.View.{DeskView}
-use Rattle.rm_plain.specs.declared.halts.Halt.{Halt}
-use Rattle.rm_plain.specs.declared.halts.Halt.TheVariants.{DiskFault, Full, Schedule, Memory}
-use Rattle.rm_plain.specs.declared.lives.LifeEnd.{LifeEnd}
-use Rattle.rm_plain.specs.declared.lives.LifeEnd.TheVariants.{Rest, Down}
-use Rattle.rm_plain.specs.Goes.{ExtendsRun}
-use Rattle.rm_plain.specs.Keeping.{FuseStays, HaltsBy, IsHaltedBy, IsKeptOn, Serves, armed_by}
-use Rattle.rm_plain.specs.Lives.{EndsBy}
-use Rattle.rm_plain.specs.Survives.{HoldsWithin}
-use Rattle.rm_plain.proofs.Ending.{comes_to_rest}
-use Rattle.rm_plain.proofs.Halting.{keeps_leaves}
-use Rattle.rm_plain.proofs.Moving.{TellsAll}
+use Rattle.rm_lives.specs.declared.halts.Halt.{Halt}
+use Rattle.rm_lives.specs.declared.halts.Halt.TheVariants.{DiskFault, Full, Schedule, Memory}
+use Rattle.rm_lives.specs.declared.moves.LifeEnd.{LifeEnd}
+use Rattle.rm_lives.specs.declared.moves.LifeEnd.TheVariants.{Rest, Down}
+use Rattle.rm_lives.specs.Goes.{ExtendsRun}
+use Rattle.rm_lives.specs.Keeping.{FuseStays, HaltsBy, IsHaltedBy, IsKeptOn, Serves, armed_by}
+use Rattle.rm_lives.specs.Lives.{EndsBy}
+use Rattle.rm_lives.specs.Survives.{HoldsWithin}
+use Rattle.rm_lives.proofs.Ending.{comes_to_rest}
+use Rattle.rm_lives.proofs.Halting.{keeps_leaves}
+use Rattle.rm_lives.proofs.Moving.{TellsAll}
 use Rattle.rm_workers.specs.declared.turns.End.{End}
 use Rattle.rm_workers.specs.declared.turns.End.TheVariants as ends
 use Rattle.rm_workers.specs.AnyOrder.{any_order}

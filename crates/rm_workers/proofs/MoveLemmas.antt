@@ -21,13 +21,13 @@ use Rattle.rm_desk.specs.Effects.{StoreBlows, LaneEffect, EffectBy, IsEntryOf}
 use Rattle.rm_desk.specs.Lanes.{HasNoWork, IsStep, is_ready_at, life_goes_on}
 use Rattle.rm_desk.specs.Runs.{IsPlaceSound}
 use Rattle.rm_desk.specs.View.{DeskView}
-use Rattle.rm_plain.specs.Falls.{fall}
-use Rattle.rm_plain.specs.Goes.{ExtendsRun}
-use Rattle.rm_plain.specs.Order.{May}
-use Rattle.rm_plain.proofs.Choosing.{ready_may}
-use Rattle.rm_plain.proofs.Ending.{goes_trans}
-use Rattle.rm_plain.proofs.Longer.{is_plain, main_quiet, sched_quiet}
-use Rattle.rm_plain.proofs.Moving.{TellsAll, blown_goes, down_goes, goes_same, kept_goes, settle_goes, works}
+use Rattle.rm_lives.specs.Falls.{fall}
+use Rattle.rm_lives.specs.Goes.{ExtendsRun}
+use Rattle.rm_lives.specs.Order.{May}
+use Rattle.rm_lives.proofs.Ordering.{ready_may}
+use Rattle.rm_lives.proofs.Ending.{goes_trans}
+use Rattle.rm_lives.proofs.Longer.{is_plain, main_quiet, sched_quiet}
+use Rattle.rm_lives.proofs.Moving.{TellsAll, blown_goes, down_goes, goes_same, kept_goes, settle_goes, works}
 use Rattle.rm_workers.specs.AnyOrder.{any_order}
 use Rattle.rm_workers.specs.Came.{Came, Moves, Went, blown_on, came, come_on, come_to, fall_by, falls_on, since, stands_on}
 

@@ -1,5 +1,5 @@
 -- What the store's worker knows after each of its moves.
-use Rattle.std.proofs.Common.{◌≡◌, ◌⊎◌, ℕ, ◌<◌, ◌≤◌, List, [], ◌∷◌, ◌++◌, Bool, true, false, None, Some, Option, refl, sym, ◌∙◌, ap, subst, inl, inr, append-nil, arith}
+use Rattle.std.proofs.Common.{◌≡◌, ◌⊎◌, ℕ, ◌<◌, ◌≤◌, List, [], ◌∷◌, ◌++◌, Bool, true, false, true≢false, None, Some, Option, refl, sym, ◌∙◌, ap, subst, inl, inr, append-nil, arith}
 use Rattle.std.proofs.lemmas.Option.{same_Some}
 use Rattle.rm_types.specs.declared.entries.Entry.{Entry}
 use Rattle.rm_types.specs.declared.entries.Entry.TheVariants.{Kept}
@@ -26,16 +26,16 @@ use Rattle.rm_desk.specs.Effects.{StoreBlows, LaneEffect, HasHanded, IsHanded}
 use Rattle.rm_desk.specs.Lanes.{life_goes_on}
 use Rattle.rm_desk.specs.Runs.{HasBlown}
 use Rattle.rm_desk.specs.View.{DeskView}
-use Rattle.rm_plain.specs.declared.halts.Halt.TheVariants.{Memory}
-use Rattle.rm_plain.specs.Halted.{halt_of}
-use Rattle.rm_plain.specs.Keeping.{IsKeptOn, IsUnkept, KeepsOn, LeavesOn, Serves, StoresOn, armed_by, blown_in, has_blown}
-use Rattle.rm_plain.specs.Lives.{TakesStep as LifeGoesOn}
-use Rattle.rm_plain.specs.Order.{May}
-use Rattle.rm_plain.specs.Survives.{HoldsAfter, HoldsWithin}
-use Rattle.rm_plain.proofs.Ending.{settles_on, works_on, within_kept}
-use Rattle.rm_plain.proofs.Halting.{after_within, keeps_leaves, leaves_after}
-use Rattle.rm_plain.proofs.Moving.{TellsAll, down_unkept, settle_goes, settling_unblown, told_blown, works}
-use Rattle.rm_plain.proofs.Stored.{blown_stores, has_kept, keeps_trans, op_stores, unkept_stores}
+use Rattle.rm_lives.specs.declared.halts.Halt.TheVariants.{Memory}
+use Rattle.rm_lives.specs.Halted.{halt_of}
+use Rattle.rm_lives.specs.Keeping.{IsKeptOn, IsUnkept, KeepsOn, LeavesOn, Serves, StoresOn, armed_by, blown_in, has_blown}
+use Rattle.rm_lives.specs.Lives.{TakesStep as LifeGoesOn}
+use Rattle.rm_lives.specs.Order.{May}
+use Rattle.rm_lives.specs.Survives.{HoldsAfter, HoldsWithin}
+use Rattle.rm_lives.proofs.Ending.{settles_on, works_on, within_kept}
+use Rattle.rm_lives.proofs.Halting.{after_within, keeps_leaves, leaves_after}
+use Rattle.rm_lives.proofs.Moving.{TellsAll, down_unkept, settle_goes, settling_unblown, told_blown, works}
+use Rattle.rm_lives.proofs.Stored.{blown_stores, has_kept, keeps_trans, op_stores, unkept_stores}
 use Rattle.rm_workers.specs.AnyOrder.{any_order}
 use Rattle.rm_workers.specs.Began.{Began, seen_then}
 use Rattle.rm_workers.specs.Came.{Moves, Went, came}
@@ -92,6 +92,11 @@ module _ {D : Type 0} (view : D → DiskView) (began : Began) where
 
   pub alive_at : (d : DeskView) (store : StoreState D) → Went began.desk d → Serving view began store d.core.log → stands d.core ≡ true
   alive_at d store went s = went.standing ∙ s.stands.standing
+
+  -- a segment of a life that isn't blown, of which something is left to do, may not close
+  pub busy_stays : (d : DeskView) (store : StoreState D) → Went began.desk d → Serving view began store d.core.log → store.disk.blown ≡ false → (idle : Bool) → ((stands d.core ≡ true) × has_rest d.core → idle ≡ true) → idle ≡ false
+      → (is_blown d.core ≡ false → has_rest d.core) → ⊥
+  busy_stays d store went s unblown idle is none rests = true≢false (sym (is (alive_at d store went s, rests (sym (serves_at d store went s).blown ∙ unblown))) ∙ none)
 
   -- one part after the other
   keeps_on : (opening : List Op) (d next : DeskView) (one two : DiskView) → KeepsOn opening began.desk.core.log d.core.log (seen_then began) one → StandsFor opening d.core → StoresOn opening d next one two

@@ -14,8 +14,8 @@ use Rattle.rm_desk.specs.Effects.{LaneEffect}
 use Rattle.rm_desk.specs.Lanes.{HasNoWork, is_ready_at}
 use Rattle.rm_desk.specs.Runs.{IsPlaceSound, DescribesState}
 use Rattle.rm_desk.specs.View.{DeskView}
-use Rattle.rm_plain.specs.Falls.{fall}
-use Rattle.rm_plain.specs.Goes.{ExtendsRun}
+use Rattle.rm_lives.specs.Falls.{fall}
+use Rattle.rm_lives.specs.Goes.{ExtendsRun}
 use Rattle.rm_workers.specs.AnyOrder.{any_order}
 
 -- what is left of the script, whether an operation was refused, whether the life stands, and the falls of the device that it let happen

@@ -4,12 +4,12 @@ use Rattle.rm_disk.specs.Disk.{DiskView}
 use Rattle.rm_store.specs.Store.{StoreState, StoreInvariant, seen}
 use Rattle.rm_core.specs.Words.{stands}
 use Rattle.rm_desk.specs.View.{DeskView}
-use Rattle.rm_plain.specs.declared.halts.Halt.{Halt}
-use Rattle.rm_plain.specs.declared.lives.LifeEnd.{LifeEnd}
-use Rattle.rm_plain.specs.declared.lives.LifeEnd.TheVariants.{Rest, Down}
-use Rattle.rm_plain.specs.Falls.{fall}
-use Rattle.rm_plain.specs.Goes.{ExtendsRun, IsOver}
-use Rattle.rm_plain.specs.Keeping.{KeepsOn, LeavesOn}
+use Rattle.rm_lives.specs.declared.halts.Halt.{Halt}
+use Rattle.rm_lives.specs.declared.moves.LifeEnd.{LifeEnd}
+use Rattle.rm_lives.specs.declared.moves.LifeEnd.TheVariants.{Rest, Down}
+use Rattle.rm_lives.specs.Falls.{fall}
+use Rattle.rm_lives.specs.Goes.{ExtendsRun, IsOver}
+use Rattle.rm_lives.specs.Keeping.{KeepsOn, LeavesOn}
 use Rattle.rm_workers.specs.AnyOrder.{any_order}
 use Rattle.rm_workers.specs.Began.{Began, seen_then}
 use Rattle.rm_workers.specs.Work.{IsWhyHalted, OverBegan, Stays}

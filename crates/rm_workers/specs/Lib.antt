@@ -4,6 +4,7 @@ pub mod Came
 pub mod Carried
 pub mod Work
 pub mod Turns
+pub mod Holds
 pub mod Ends
 pub mod Still
 pub mod Start

@@ -1,23 +1,25 @@
 -- What the turns of the workers come to. This project's own.
-use Rattle.std.specs.Prelude.{◌≡◌, ◌≢◌, ◌⊎◌, ℕ, ◌≤◌, true, false, List, [], ◌∷◌, ◌++◌, length, Option, None, Some}
+use Rattle.std.specs.Prelude.{◌≡◌, ◌≢◌, ◌⊎◌, true, false, List, [], ◌∷◌, ◌++◌, Option, None, Some}
 use Rattle.rm_types.specs.declared.entries.Entry.{Entry}
 use Rattle.rm_types.specs.declared.messages.Lane.{Lane}
-use Rattle.rm_types.specs.declared.messages.Lane.TheVariants.{Client, Master, Node, Clock, Main, Sched, Hand, End as EndLane}
+use Rattle.rm_types.specs.declared.messages.Lane.TheVariants.{Client, Master, Node, Clock, Main, Sched, Hand, Write, End as EndLane}
 use Rattle.rm_types.specs.declared.operations.Op.{Op}
 use Rattle.rm_types.specs.Lanes.{lane_of_entry}
 use Rattle.rm_types.specs.Ranges.{IsOperation}
 use Rattle.rm_disk.specs.Disk.{DiskView}
 use Rattle.rm_store.specs.Store.{StoreState}
 use Rattle.rm_desk.specs.Effects.{LaneEffect}
-use Rattle.rm_core.specs.Words.{stands}
+use Rattle.rm_core.specs.Words.{has_rest, is_blown, stands}
 use Rattle.rm_desk.specs.Lanes.{is_ready_at}
 use Rattle.rm_desk.specs.Runs.{IsScriptOver}
 use Rattle.rm_desk.specs.View.{DeskView}
-use Rattle.rm_plain.specs.declared.halts.Halt.{Halt}
+use Rattle.rm_lives.specs.declared.halts.Halt.{Halt}
 use Rattle.rm_workers.specs.declared.turns.End.{End}
 use Rattle.rm_workers.specs.declared.turns.End.TheVariants as ends
 use Rattle.rm_workers.specs.declared.turns.Helped.{Helped}
 use Rattle.rm_workers.specs.declared.turns.Helped.TheVariants.{Moved, Still, Over}
+use Rattle.rm_workers.specs.declared.turns.Told.{Told}
+use Rattle.rm_workers.specs.declared.turns.Told.TheVariants as told
 use Rattle.rm_workers.specs.declared.turns.Turn.{Turn}
 use Rattle.rm_workers.specs.declared.turns.Turn.TheVariants as turns
 use Rattle.rm_workers.specs.declared.turns.Written.{Written}
@@ -25,6 +27,12 @@ use Rattle.rm_workers.specs.declared.turns.Written.TheVariants as written
 use Rattle.rm_workers.specs.Began.{Began}
 use Rattle.rm_workers.specs.Carried.{HeldView}
 use Rattle.rm_workers.specs.Work.{Halting, Owing, Refused, Serving, Sunk, Wrote}
+
+-- the new log is the old one and one entry, of this lane
+pub record AddsEntryOf (lane : Lane) (old new : List Entry) : Type 0 where
+  pub entry : Entry
+  pub added : new ≡ old ++ entry ∷ []
+  pub of_lane : lane_of_entry entry ≡ lane
 
 -- no worker has anything left to do: a halt stands, or the life went down, or the run is at its end
 abbrev pub HasEnded : HeldView → Type 0
@@ -49,36 +57,18 @@ Helps lane Moved old new = (is_ready_at old.desk lane ≡ true) × LaneEffect la
 Helps lane Still old new = (is_ready_at old.desk lane ≡ false) × (new ≡ old)
 Helps lane Over old new = (new.desk ≡ old.desk) × HasEnded new
 
--- each of these entries is of the lane
-abbrev pub AllOf : Lane → List Entry → Type 0
-AllOf lane [] = Unit {0}
-AllOf lane (e ∷ es) = (lane_of_entry e ≡ lane) × AllOf lane es
-
--- the new log is the old one, followed by so many entries of the lane
-pub record AddsOf (lane : Lane) (count : ℕ) (old new : List Entry) : Type 0 where
-  pub added : List Entry
-  pub grown : old ++ added ≡ new
-  pub counted : length added ≡ count
-  pub own : AllOf lane added
-
--- why a helper makes no more moves in a hold: it made as many as it may; its lane isn't ready; or nothing is left to do
-abbrev pub StopsFor : (most : ℕ) → Lane → Helped → (made : ℕ) → HeldView → Type 0
-StopsFor most lane Moved made held = made ≡ most
-StopsFor most lane Still made held = is_ready_at held.desk lane ≡ false
-StopsFor most lane Over made held = HasEnded held
-
--- what a helper's hold does: its lane moves, so often at most, and stops for such a reason
-pub record HelpsOn (most : ℕ) (lane : Lane) (helped : Helped) (old new : HeldView) : Type 0 where
-  pub made : ℕ
-  pub few : made ≤ most
-  pub adds : AddsOf lane made old.desk.core.log new.desk.core.log
-  pub stops : StopsFor most lane helped made new
-
 -- THE STORE'S WORKER
 
--- the lane was ready, and moved
+-- which of its lanes may move in a turn: an operation may be handed to the store; and the current segment may close, which it does at rest, unless the
+-- life blew
+abbrev pub MayTurn : DeskView → Lane → Type 0
+MayTurn d Hand = is_ready_at d Hand ≡ true
+MayTurn d EndLane = (is_ready_at d EndLane ≡ true) × (is_blown d.core ≡ false → has_rest d.core)
+MayTurn d _ = ⊥
+
+-- a lane moved that might
 abbrev pub IsMove : Lane → DeskView → DeskView → Type 0
-IsMove lane old new = (is_ready_at old lane ≡ true) × LaneEffect lane old new
+IsMove lane old new = MayTurn old lane × LaneEffect lane old new
 
 -- what the last turn does to the desk: nothing, or its first operation was handed and no memory was found for more; or the segment closed
 abbrev pub EndMakes : End → DeskView → DeskView → Type 0
@@ -86,13 +76,20 @@ EndMakes ends.Over old new = (new ≡ old) ⊎ IsMove Hand old new
 EndMakes (ends.Down image) old new = IsMove EndLane old new
 EndMakes (ends.Halted halt) old new = IsMove EndLane old new
 
--- what a turn does to it: one lane moves that was ready, or none
+-- what a turn with the desk does to it: one lane moves that may; or none does, where none may
 abbrev pub Makes : Turn → DeskView → DeskView → Type 0
-Makes turns.Out old new = new ≡ old
-Makes turns.Wait old new = new ≡ old
+Makes turns.Out old new = ⊥
+Makes turns.Wait old new = (new ≡ old) × ((lane : Lane) → MayTurn old lane → ⊥)
 Makes (turns.Moved lane) old new = IsMove lane old new
 Makes (turns.Write op) old new = IsMove Hand old new
 Makes (turns.Ends end) old new = EndMakes end old new
+
+-- the lane of the entry that a turn adds; where it adds none, that in which operations are handed
+abbrev pub lane_of_turn : Turn → Lane
+lane_of_turn (turns.Moved lane) = lane
+lane_of_turn (turns.Ends (ends.Down image)) = EndLane
+lane_of_turn (turns.Ends (ends.Halted halt)) = EndLane
+lane_of_turn _ = Hand
 
 -- why a turn is the last of the store's worker: nothing is left to do for any, or the life went down, or was halted by it
 abbrev pub HasCause : End → HeldView → Type 0
@@ -134,10 +131,28 @@ module _ {D : Type 0} (view : D → DiskView) (began : Began) (store : StoreStat
   WrittenFact op (written.Blown passed) log = Refused view began store passed log
   WrittenFact op (written.Failed halt) log = Halting view began store halt log
 
-  -- and once the manager was to learn of it: the life goes on, or it was halted
+  -- and after a hold in which the manager was to learn of it: the life goes on, or it was halted, or what was known before is still so
+  abbrev pub ToldFact : (List Entry → Type 0) → Told → List Entry → Type 0
+  ToldFact Before told.Learned log = Serving view began store log
+  ToldFact Before (told.Halted halt) log = Halting view began store halt log
+  ToldFact Before told.Absent log = Before log
+
+  -- and once it has learned of it: the life goes on, or it was halted
   abbrev pub LearnedFact : Option Halt → List Entry → Type 0
   LearnedFact None log = Serving view began store log
   LearnedFact (Some halt) log = Halting view began store halt log
+
+-- what the hold after a write does: the manager learns what became of the operation, by one entry of the store's lane; or no memory was found for
+-- that, and a halt stands; or no operation was with the store
+abbrev pub Learns : Told → HeldView → HeldView → Type 0
+Learns told.Learned old new = (is_ready_at old.desk Write ≡ true) × AddsEntryOf Write old.desk.core.log new.desk.core.log
+Learns (told.Halted halt) old new = (new.desk ≡ old.desk) × (new.halt ≢ None)
+Learns told.Absent old new = (is_ready_at old.desk Write ≡ false) × (new.desk ≡ old.desk)
+
+-- the lane of the entry that it adds; where it adds none, that in which operations are handed
+abbrev pub lane_of_told : Told → Lane
+lane_of_told told.Learned = Write
+lane_of_told _ = Hand
 
 -- an operation that is to be written has its parts in their ranges
 abbrev pub TurnOp : Turn → Type 0

@@ -1,5 +1,5 @@
 -- Whose bell rings after a hold, and what a helper does next. This project's own.
-use Rattle.std.specs.Prelude.{◌≡◌, Bool, true, false, ◌||◌, None}
+use Rattle.std.specs.Prelude.{◌≡◌, Bool, true, false, ◌&&◌, ◌||◌, not, None}
 use Rattle.rm_types.specs.declared.messages.Lane.{Lane}
 use Rattle.rm_types.specs.declared.messages.Lane.TheVariants.{Client, Master, Node, Clock, Main, Sched, Hand, Write, End, Begin}
 use Rattle.rm_core.specs.Words.{stands}
@@ -55,10 +55,29 @@ CallsAll called = (lane : Lane) → is_called called lane ≡ true
 abbrev pub IsGoing : HeldView → Type 0
 IsGoing held = (held.halt ≡ None) × (stands held.desk.core ≡ true) × (IsScriptOver held.desk → ⊥)
 
--- what a helper does next: it sleeps where its lane isn't ready, and leaves where nothing is left to do; where it made all its moves, it gives way
--- if another worker is called, and goes on at once if none is
-abbrev pub next_of : Helped → (others : Bool) → Next
-next_of Moved true = GivesWay
-next_of Moved false = GoesOn
-next_of Still others = Sleeps
-next_of Over others = Leaves
+-- those who are called and weren't before
+abbrev pub newly_called : (before now : Called) → Called
+newly_called before now =
+    record {
+      client = now.client && not before.client;
+      master = now.master && not before.master;
+      node = now.node && not before.node;
+      clock = now.clock && not before.clock;
+      main = now.main && not before.main;
+      sched = now.sched && not before.sched;
+      store = now.store && not before.store;
+    }
+
+-- what a helper does next: it leaves where nothing is left to do, and sleeps where its lane isn't ready any more. Else it goes on at once, as often as it may; where
+-- it mayn't any more, it gives way if another worker is called
+abbrev pub next_of : Helped → (again others may : Bool) → Next
+next_of Moved true true false = GivesWay
+next_of Moved true others may = GoesOn
+next_of Moved false others may = Sleeps
+next_of Still again others may = Sleeps
+next_of Over again others may = Leaves
+
+-- whose bells ring behind its hold: those of all others who are called; where it goes on at once, of those alone who weren't called before
+abbrev pub rung_by : Next → (before others : Called) → Called
+rung_by GoesOn before others = newly_called before others
+rung_by _ before others = others

@@ -13,29 +13,29 @@ use Rattle.rm_core.specs.Seen.{StandsFor}
 use Rattle.rm_desk.specs.Effects.{HasHanded, IsHanded}
 use Rattle.crossbeam_queue.specs.Passes.{Pass}
 use Rattle.rm_baton.specs.declared.baton.Baton.{Baton}
-use Rattle.rm_baton.specs.declared.carries.Known.{Known}
 use Rattle.rm_baton.specs.Passes.{IsPassOf}
 use Rattle.rm_baton.specs.Views.{IsIdle, view}
-use Rattle.rm_plain.specs.declared.halts.Halt.{Halt}
-use Rattle.rm_plain.specs.declared.halts.Halt.TheVariants.{DiskFault, Full, Schedule, Memory}
-use Rattle.rm_plain.specs.Falls.{fall}
-use Rattle.rm_plain.specs.Keeping.{IsFullFor, IsKeptOn, KeepsOn, LeavesOn, armed_by, has_blown}
+use Rattle.rm_lives.specs.declared.halts.Halt.{Halt}
+use Rattle.rm_lives.specs.declared.halts.Halt.TheVariants.{DiskFault, Full, Schedule, Memory}
+use Rattle.rm_lives.specs.Falls.{fall}
+use Rattle.rm_lives.specs.Keeping.{IsFullFor, IsKeptOn, KeepsOn, LeavesOn, armed_by, has_blown}
 use Rattle.rm_workers.specs.Began.{Began, seen_then}
 use Rattle.rm_workers.specs.Came.{came}
+use Rattle.rm_workers.specs.Carried.{HeldView, PassView}
 
 -- THE PASSES
 
 -- a pass that doesn't have the baton, and isn't the store's
-pub record IsHelper (v : Known (Unit {0})) : Type 0 where
+pub record IsHelper (v : PassView) : Type 0 where
   pub idle : IsIdle v
   pub helps : v.store ≡ false
 
 -- a helper's pass of this baton
-abbrev pub IsHelperOf : {T : Type 0} → Baton T (Unit {0}) → Pass T (Known (Unit {0})) → Type 0
+abbrev pub IsHelperOf : Baton HeldView (Unit {0}) → Pass HeldView PassView → Type 0
 IsHelperOf baton pass = IsPassOf baton pass × IsHelper (view pass)
 
 -- the store's pass, of whose latest log this holds
-pub record Knows (Is : List Entry → Type 0) (v : Known (Unit {0})) : Type 0 where
+pub record Knows (Is : List Entry → Type 0) (v : PassView) : Type 0 where
   pub idle : IsIdle v
   pub mark : v.store ≡ true
   pub fact : Is v.latest

@@ -4,7 +4,7 @@ use std::sync::Wait;
 use std::thread::Parker;
 use std::time::Duration;
 
-/// How many milliseconds a worker that gives way, or whom the store's next move waits for, sleeps at most before it tries again.
+/// How many milliseconds a worker who may have something to do sleeps at most before it tries again.
 const BATON_TURN: u64 = 1;
 
 /// How many milliseconds a worker waits at most for those that haven't come yet, before it looks again.
@@ -72,14 +72,14 @@ impl Bells {
         }
     }
 
-    /// The lane's worker found nothing to do, or the baton with another one. It sleeps until its bell rings: who has the baton rings
-    /// for each who can move, once it is back.
+    /// The lane's worker left nothing to do for itself. It sleeps until its bell rings: whose hold makes a lane ready rings for that lane's
+    /// worker, once the baton is back.
     pub(crate) fn sleep<R: Wait>(&self, rt: &R, lane: Lane) {
         self.of(lane).park(rt);
     }
 
-    /// The lane's worker lets another one take the baton first, or waits for one that it has to have. It sleeps until its bell rings,
-    /// and not for long, so that nobody waits for one who is held up.
+    /// The lane's worker found the baton with another one, or lets another one take it first. It sleeps until its bell rings, and not for
+    /// long: who has the baton may go on with it and ring only behind its last hold, and who was let first may be held up.
     pub(crate) fn nap<R: Wait>(&self, rt: &R, lane: Lane) {
         self.of(lane)
             .park_timeout(rt, Duration::from_millis(BATON_TURN));

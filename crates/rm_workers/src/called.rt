@@ -1,6 +1,6 @@
 //! Who is to be woken after a hold.
 ghost use Rattle.std.specs.Prelude.{◌≡◌};
-ghost use Rattle.rm_workers.specs.Waking.{CallsAll, calls_any, without_worker};
+ghost use Rattle.rm_workers.specs.Waking.{CallsAll, calls_any, is_called, newly_called, without_worker};
 
 use rm_types::Lane;
 
@@ -48,6 +48,37 @@ impl Called {
             Lane::Begin => {}
         }
         called
+    }
+
+    /// Whether the worker of this lane is called.
+    pub(crate) fn has(self, lane: Lane) -> bool
+        ensures { result ≡ is_called self lane }
+    {
+        match lane {
+            Lane::Client => self.client,
+            Lane::Master => self.master,
+            Lane::Node => self.node,
+            Lane::Clock => self.clock,
+            Lane::Main => self.main,
+            Lane::Sched => self.sched,
+            Lane::Hand | Lane::Write | Lane::End => self.store,
+            Lane::Begin => true,
+        }
+    }
+
+    /// The same, but for those who were called before.
+    pub(crate) fn but(self, before: Called) -> Called
+        ensures { result ≡ newly_called before self }
+    {
+        Called {
+            client: self.client && !before.client,
+            master: self.master && !before.master,
+            node: self.node && !before.node,
+            clock: self.clock && !before.clock,
+            main: self.main && !before.main,
+            sched: self.sched && !before.sched,
+            store: self.store && !before.store,
+        }
     }
 
     /// Whether any worker is called.

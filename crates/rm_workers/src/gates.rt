@@ -13,8 +13,8 @@ pub trait Gate {
     /// `run_life`. The store's worker doesn't have the baton then.
     fn before_append(&self, number: u64);
 
-    /// After a worker put the baton back and the bells rang. The lane is that of the entry added, or of all the entries; where none
-    /// was, the worker's own, and `Hand` for the store's worker.
+    /// After a worker put the baton back and the bells rang, each time. The lane is that of the entry added; where none was, the worker's
+    /// own, and `Hand` for the store's worker.
     fn after_hold(&self, lane: Lane);
 }
 

@@ -18,7 +18,7 @@ use crate::since::Since;
 use rm_baton::Carries;
 use rm_core::Refused;
 use rm_desk::Desk;
-use rm_plain::Halt;
+use rm_lives::Halt;
 use rm_types::Lane;
 use std::alloc::Global;
 use std::marker::{Model, PhantomData};
@@ -172,6 +172,7 @@ impl<S: Since> Held<S> {
     /// The operation that is with the store is kept. `NotReady` comes only where none is.
     pub(crate) fn kept(&mut self) -> Result<(), Refused>
         ensures not_ready { IsErrOf result Refused.NotReady → is_ready_at self.old.desk Lane.Write ≡ false }
+        ensures ready { OnOk result (is_ready_at self.old.desk Lane.Write ≡ true) }
         ensures does { OnOk result (LaneEffect Lane.Write self.old.desk self.new.desk) }
         ensures went { OnOk result (Went S.began.desk self.old.desk × Went S.began.desk self.new.desk) }
         ensures kept { OnOk result ((opening : List AnyOp) → StandsFor opening self.old.desk.core → (op : AnyOp) × IsToBeKept opening self.old.desk.core op × (self.new.desk.core.log ≡ self.old.desk.core.log ++ WasKept op ∷ [])) }
@@ -189,6 +190,7 @@ impl<S: Since> Held<S> {
     pub(crate) fn blown(&mut self, passed: u32) -> Result<(), Refused>
         requires closes { (image : ℕ) × (close_left (came S.began.desk self.old.desk.core.log).place.segments ≡ Some (Close.Crash passed image)) }
         ensures not_ready { IsErrOf result Refused.NotReady → is_ready_at self.old.desk Lane.Write ≡ false }
+        ensures ready { OnOk result (is_ready_at self.old.desk Lane.Write ≡ true) }
         ensures does { OnOk result (StoreBlows passed self.old.desk self.new.desk) }
         ensures went { OnOk result (Went S.began.desk self.old.desk × Went S.began.desk self.new.desk) }
         ensures halt { OnOk result (self.new.halt ≡ self.old.halt) }

@@ -6,7 +6,7 @@
 //! fell as the crashes say, and that at every moment a crash leaves what is kept, or this and the operation that awaits. It
 //! doesn't promise that it returns.
 //!
-//! It stands on `rm_baton`, on `rm_desk` and `rm_store`, and on `rm_plain` for what the end of a life is. `Came` says how
+//! It stands on `rm_baton`, on `rm_desk` and `rm_store`, and on `rm_lives`, which runs the lives one after another. `Came` says how
 //! far a life has come by its log, `Work` what a worker knows between two holds, and `Turns` what its turns come to.
 #![tactic(auto)]
 

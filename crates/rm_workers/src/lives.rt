@@ -3,8 +3,8 @@ ghost use Rattle.rm_core.specs.Words.{stands};
 ghost use Rattle.rm_desk.specs.Runs.{IsScriptOver};
 ghost use Rattle.rm_baton.specs.Passes.{IsPassOf};
 ghost use Rattle.rm_baton.specs.Views.{view};
-ghost use Rattle.rm_plain.specs.Keeping.{FuseStays, HaltsBy, Serves};
-ghost use Rattle.rm_plain.specs.Lives.{EndsBy};
+ghost use Rattle.rm_lives.specs.Keeping.{FuseStays, HaltsBy, Serves};
+ghost use Rattle.rm_lives.specs.Lives.{EndsBy};
 ghost use Rattle.rm_workers.specs.AnyOrder.{any_order};
 ghost use Rattle.rm_workers.specs.Began.{began_with};
 ghost use Rattle.rm_workers.specs.Ends.{Ended};
@@ -21,7 +21,7 @@ use crate::workers::run_workers;
 use rm_baton::{Baton, Pass};
 use rm_desk::Desk;
 use rm_disk::Disk;
-use rm_plain::{Halt, LifeEnd};
+use rm_lives::{Halt, LifeEnd};
 use rm_store::Store;
 use std::alloc::Global;
 use std::marker::Brand;
@@ -88,7 +88,7 @@ fn live<S: Since + Send + Sync, D: Disk + Drop + Send, G: Gate + Sync, R: Thread
         Ok((baton, pass)) => {
             let signals = Signals::new();
             let (pass, store, end) = run_workers(rt, &baton, gate, &signals, pass, store);
-            let held = hold_last(rt, &baton, &signals.bells, pass, &store, end);
+            let held = hold_last(rt, &baton, gate, &signals.bells, pass, &store, end);
             finish(held, store, end)
         }
     }

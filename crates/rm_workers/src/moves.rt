@@ -1,6 +1,5 @@
 //! The workers' turns, over the value that is carried.
 ghost use Rattle.std.specs.Prelude.{◌≡◌, ◌≢◌, ℕ, None, Some, true, false};
-ghost use mathlib.Core.List.{IsPrefix};
 ghost use Rattle.rm_types.specs.declared.messages.Lane.{Lane};
 ghost use Rattle.rm_types.specs.declared.scripts.Close.{Close};
 ghost use Rattle.rm_model.specs.Place.{close_left};
@@ -10,22 +9,22 @@ ghost use Rattle.rm_baton.specs.Entries.{AddsCommon};
 ghost use Rattle.rm_workers.specs.declared.turns.End.{End};
 ghost use Rattle.rm_workers.specs.declared.turns.Helped.{Helped};
 ghost use Rattle.rm_workers.specs.declared.turns.Turn.{Turn};
-ghost use Rattle.rm_workers.specs.Turns.{Helps, HelpsOn, IsHandedTurn, IsHelpers, LearnedFact, EndsWithCause, Makes, TurnFact, TurnOp};
+ghost use Rattle.rm_workers.specs.Turns.{Helps, IsHandedTurn, IsHelpers, EndsWithCause, Learns, Makes, ToldFact, TurnFact, TurnOp};
 ghost use Rattle.rm_workers.specs.Work.{Halting, Refused as WasRefused, Serving, Wrote};
 
 use crate::held::Held;
 use crate::since::Since;
 use crate::storing::{arm, is_blown};
-use crate::turns::{End, Helped, Turn};
+use crate::turns::{End, Helped, Told, Turn};
 use rm_core::Refused;
 use rm_disk::Disk;
-use rm_plain::Halt;
+use rm_lives::Halt;
 use rm_store::Store;
 use rm_types::{Close, Duplicate, Lane, NoMemory, Op};
 
-// A helper's move: its lane moves, where it is ready. Only common entries are added. Once a halt stands nothing is done. It is
-// `Over` only where the life is over or a halt stands.
-fn help<S: Since>(held: &mut Held<S>, lane: Lane) -> Helped
+/// A helper's move: its lane moves, where it is ready. Only a common entry is added. Once a halt stands nothing is done. It is
+/// `Over` only where the life is over or a halt stands.
+pub(crate) fn help<S: Since>(held: &mut Held<S>, lane: Lane) -> Helped
     requires lane { IsHelpers lane }
     ensures helps { Helps lane result held.old held.new }
     ensures common { AddsCommon held.old.desk.core.log held.new.desk.core.log }
@@ -42,27 +41,6 @@ fn help<S: Since>(held: &mut Held<S>, lane: Lane) -> Helped
             Helped::Over
         }
     }
-}
-
-/// How many moves a helper makes at most in one hold, so that nobody waits long for the baton.
-const MOST_MOVES: u32 = 1_024;
-
-/// A helper's moves in one hold: its lane moves again and again while it is ready, but not more than `MOST_MOVES` times. Only
-/// common entries are added, all of the lane. Once a halt stands nothing is done.
-pub(crate) fn help_on<S: Since>(held: &mut Held<S>, lane: Lane) -> Helped
-    requires lane { IsHelpers lane }
-    ensures helps { HelpsOn MOST_MOVES lane result held.old held.new }
-    ensures common { AddsCommon held.old.desk.core.log held.new.desk.core.log }
-    ensures halted { held.old.halt ≢ None → (held.new ≡ held.old) }
-{
-    'moves: for _ in 0..MOST_MOVES {
-        match help(held, lane) {
-            Helped::Moved => {}
-            Helped::Still => return Helped::Still,
-            Helped::Over => return Helped::Over,
-        }
-    }
-    Helped::Moved
 }
 
 // The operation that was handed is to be written.
@@ -93,6 +71,7 @@ fn write_next<S: Since, D: Disk>(held: &mut Held<S>, store: &Store<D>) -> Turn
 // The current segment settles, and the fuse is armed where the next one is to crash.
 fn settle<S: Since, D: Disk>(held: &mut Held<S>, store: &mut Store<D>) -> Turn
     requires serving { Serving D.view S.began store.old held.old.desk.core.log }
+    requires hand { is_ready_at held.old.desk Lane.Hand ≡ false }
     requires settles { close_left held.old.desk.place.segments ≡ Some Close.Settle }
     requires rests { is_blown held.old.desk.core ≡ false → has_rest held.old.desk.core }
     ensures turn { TurnFact D.view S.began store.new result held.new.desk.core.log }
@@ -119,6 +98,7 @@ fn settle<S: Since, D: Disk>(held: &mut Held<S>, store: &mut Store<D>) -> Turn
 // The life goes down; its device is to fall to the image.
 fn go_down<S: Since, D: Disk>(held: &mut Held<S>, store: &Store<D>, image: u32) -> Turn
     requires serving { Serving D.view S.began store.now held.old.desk.core.log }
+    requires hand { is_ready_at held.old.desk Lane.Hand ≡ false }
     requires crashes { (calls : ℕ) × (close_left held.old.desk.place.segments ≡ Some (Close.Crash calls image)) }
     requires rests { is_blown held.old.desk.core ≡ false → has_rest held.old.desk.core }
     ensures turn { TurnFact D.view S.began store.now result held.new.desk.core.log }
@@ -140,6 +120,7 @@ fn go_down<S: Since, D: Disk>(held: &mut Held<S>, store: &Store<D>, image: u32) 
 // The current segment closes where nothing is left to do, or where the life blew.
 fn close<S: Since, D: Disk>(held: &mut Held<S>, store: &mut Store<D>) -> Turn
     requires serving { Serving D.view S.began store.old held.old.desk.core.log }
+    requires hand { is_ready_at held.old.desk Lane.Hand ≡ false }
     ensures turn { TurnFact D.view S.began store.new result held.new.desk.core.log }
     ensures makes { Makes result held.old.desk held.new.desk }
     ensures cause { EndsWithCause result held.new }
@@ -156,8 +137,8 @@ fn close<S: Since, D: Disk>(held: &mut Held<S>, store: &mut Store<D>) -> Turn
     }
 }
 
-/// A turn of the store's worker in its hold. Once a halt stands nothing is done. It ends the turns only where the life is over or a
-/// halt stands.
+/// A turn of the store's worker in its hold: one move, if one of its lanes may move. Once a halt stands nothing is done. It ends the
+/// turns only where the life is over or a halt stands.
 pub(crate) fn turn<S: Since, D: Disk>(held: &mut Held<S>, store: &mut Store<D>) -> Turn
     requires serving { Serving D.view S.began store.old held.old.desk.core.log }
     ensures turn { TurnFact D.view S.began store.new result held.new.desk.core.log }
@@ -179,43 +160,37 @@ pub(crate) fn turn<S: Since, D: Disk>(held: &mut Held<S>, store: &mut Store<D>) 
     }
 }
 
-/// Says that the operation which was written is kept. Want of memory for that halts the life.
-pub(crate) fn keep<S: Since, D: Disk>(held: &mut Held<S>, store: &Store<D>, op: &Op) -> Option<Halt>
+/// Says that the operation which was written is kept, where one is with the store. Want of memory for that halts the life.
+pub(crate) fn keep<S: Since, D: Disk>(held: &mut Held<S>, store: &Store<D>, op: &Op) -> Told
     requires wrote { Wrote D.view S.began store.now op.now held.old.desk.core.log }
-    requires handed { is_ready_at held.old.desk Lane.Write ≡ true }
-    ensures learned { LearnedFact D.view S.began store.now result held.new.desk.core.log }
-    ensures longer { IsPrefix held.old.desk.core.log held.new.desk.core.log }
+    ensures told { ToldFact D.view S.began store.now (Wrote D.view S.began store.now op.now) result held.new.desk.core.log }
+    ensures learns { Learns result held.old held.new }
 {
     let _ = store;
     let _ = op;
     match held.kept() {
-        Ok(()) => None,
-        Err(Refused::NotReady) => unreachable!(),
+        Ok(()) => Told::Learned,
+        Err(Refused::NotReady) => Told::Absent,
         Err(Refused::Memory) => {
             held.stop(Halt::Memory);
-            Some(Halt::Memory)
+            Told::Halted(Halt::Memory)
         }
     }
 }
 
-/// Says that the fuse refused the operation, after so many calls. Want of memory for that halts the life.
-pub(crate) fn blow<S: Since, D: Disk>(
-    held: &mut Held<S>,
-    store: &Store<D>,
-    passed: u32,
-) -> Option<Halt>
+/// Says that the fuse refused the operation, after so many calls, where one is with the store. Want of memory for that halts the life.
+pub(crate) fn blow<S: Since, D: Disk>(held: &mut Held<S>, store: &Store<D>, passed: u32) -> Told
     requires refused { WasRefused D.view S.began store.now passed held.old.desk.core.log }
-    requires handed { is_ready_at held.old.desk Lane.Write ≡ true }
-    ensures learned { LearnedFact D.view S.began store.now result held.new.desk.core.log }
-    ensures longer { IsPrefix held.old.desk.core.log held.new.desk.core.log }
+    ensures told { ToldFact D.view S.began store.now (WasRefused D.view S.began store.now passed) result held.new.desk.core.log }
+    ensures learns { Learns result held.old held.new }
 {
     let _ = store;
     match held.blown(passed) {
-        Ok(()) => None,
-        Err(Refused::NotReady) => unreachable!(),
+        Ok(()) => Told::Learned,
+        Err(Refused::NotReady) => Told::Absent,
         Err(Refused::Memory) => {
             held.stop(Halt::Memory);
-            Some(Halt::Memory)
+            Told::Halted(Halt::Memory)
         }
     }
 }

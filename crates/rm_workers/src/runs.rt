@@ -1,36 +1,26 @@
 //! The lives of a run, each by seven workers.
-ghost use Rattle.std.specs.Prelude.{◌≡◌, ◌≢◌, ◌⊎◌, ◌++◌, ◌<◌, [], length, IfErr, IsOk, OnOk, None, false, true};
+ghost use Rattle.std.specs.Prelude.{◌≡◌, ◌≢◌, ◌⊎◌, ◌<◌, [], length, OnOk, None, false, true};
 ghost use Rattle.rm_types.specs.declared.messages.Lane.{Lane};
 ghost use Rattle.rm_types.specs.Records.{stray};
-ghost use Rattle.rm_disk.specs.Disk.{IsQuiet, IfTold};
-ghost use Rattle.rm_store.specs.Content.{HasContent};
 ghost use Rattle.rm_queues.specs.Rules.{KeepsRules};
 ghost use Rattle.rm_invariant.specs.messages.Ranges.{KeepsLimits};
-ghost use Rattle.rm_model.specs.Downs.{AllGoDownAtRest};
-ghost use Rattle.rm_model.specs.Lawful.{Lawful, IsDone};
-ghost use Rattle.rm_model.specs.State.{opening_state};
 ghost use Rattle.rm_core.specs.Moves.{CanBeginOver, IsLeftAfter, IsOwn};
 ghost use Rattle.rm_core.specs.Words.{new_manager, stands};
 ghost use Rattle.rm_desk.specs.Lanes.{is_ready_at};
 ghost use Rattle.rm_desk.specs.Scripts.{CanGoAlong};
 ghost use Rattle.rm_store.specs.Store.{StoreInvariant as IsStoreSound, seen};
-ghost use Rattle.rm_plain.specs.Falls.{falls_of};
-ghost use Rattle.rm_plain.specs.Goes.{IsOver};
-ghost use Rattle.rm_plain.specs.Keeping.{IsFoundOn};
-ghost use Rattle.rm_plain.specs.Later.{FirstTo, LaterTo};
-ghost use Rattle.rm_plain.specs.Opens.{StartsOver};
-ghost use Rattle.rm_plain.specs.Order.{AllReady};
-ghost use Rattle.rm_plain.specs.Starts.{DiskStays, IsAtEase, LeavesAtEnd, LivesTo};
-ghost use Rattle.rm_plain.specs.Stops.{IsDue, IsStoppedBy};
-ghost use Rattle.rm_plain.specs.Survives.{SurvivesAll, SurvivesNow};
-ghost use Rattle.rm_plain.specs.Whole.{AllLived};
+ghost use Rattle.rm_lives.specs.Goes.{IsOver};
+ghost use Rattle.rm_lives.specs.Keeping.{IsFoundOn};
+ghost use Rattle.rm_lives.specs.Later.{FirstTo, LaterTo};
+ghost use Rattle.rm_lives.specs.Starts.{IsAtEase, LeavesAtEnd, LivesTo};
+ghost use Rattle.rm_lives.specs.Whole.{AllLived, HasRun};
 ghost use Rattle.rm_workers.specs.AnyOrder.{any_order};
 
 use crate::gates::Gate;
 use crate::lives::run_life;
 use rm_desk::Desk;
 use rm_disk::{Disk, Fuse};
-use rm_plain::{
+use rm_lives::{
     Halt, LifeEnd, Ordered, Run, Stop, Unfounded, Unopened, begin_life, leave, open_again,
     open_first,
 };
@@ -136,7 +126,7 @@ fn left<D: Disk>(desk: Desk, store: Store<D>, ended: Result<LifeEnd, Halt>) -> L
     ensures desk { result.desk ≡ desk }
     ensures leaves { LeavesAtEnd D.view D.falls_to store.disk result.disk ended result.ended }
 {
-    let rm_plain::Lived { disk, ended } = leave(store, ended);
+    let rm_lives::Lived { disk, ended } = leave(store, ended);
     Lived { desk, disk, ended }
 }
 
@@ -320,7 +310,7 @@ impl<'a, R: Threads + Wait + Sync, G: Gate + Sync> Workers<'a, R, G> {
 }
 
 /// Runs a script, each life by seven workers, over the store on the handed disk, with its fuse. It promises all that
-/// `rm_plain::run_script` does, for any order of the lanes that are ready: whatever the schedule of the threads, each entry of the
+/// a run on one thread does, for any order of the lanes that are ready: whatever the schedule of the threads, each entry of the
 /// log is of a lane that was ready then. No letter stops it. That it returns is not promised.
 pub fn run_script<D: Disk + Drop + Send, G: Gate + Sync, R: Threads + Wait + Sync>(
     workers: &Workers<'_, R, G>,
@@ -333,24 +323,7 @@ pub fn run_script<D: Disk + Drop + Send, G: Gate + Sync, R: Threads + Wait + Syn
     requires queues { KeepsRules settings }
     requires limits { KeepsLimits settings }
     requires unarmed { disk.armed ≡ None }
-    ensures lawful { Lawful settings script result.opening result.log }
-    ensures done { IsOk result.ended → IsDone settings script result.opening result.log }
-    ensures ready { AllReady (new_manager alloc settings) script result.opening result.log }
-    ensures downs { AllGoDownAtRest settings (opening_state result.opening) result.log }
-    ensures falls { result.disk.falls ≡ disk.falls ++ falls_of script result.opening result.log }
-    ensures stays { DiskStays D.view disk result.disk }
-    ensures unarmed { result.disk.armed ≡ None }
-    ensures unblown { disk.blown ≡ false → result.disk.blown ≡ false }
-    ensures idle { script.lives ≡ [] → (result.log ≡ []) × (result.disk ≡ disk) × IsOk result.ended }
-    ensures begun { script.lives ≢ [] → OnOk result.ended (result.log ≢ []) }
-    ensures opening { result.log ≢ [] → IfTold (seen D.view disk) (λ bytes. HasContent bytes result.opening) }
-    ensures found { (result.opening ≡ []) ⊎ IfTold (seen D.view disk) (λ bytes. HasContent bytes result.opening) }
-    ensures read_back { stray result.opening ≡ None }
-    ensures quiet { result.log ≡ [] → IsQuiet (seen D.view disk) (seen D.view result.disk) }
-    ensures images { SurvivesAll result.opening result.log (seen D.view disk) (seen D.view result.disk) }
-    ensures images_now { SurvivesNow result.opening result.log (seen D.view disk) (seen D.view result.disk) }
-    ensures starts { StartsOver (seen D.view disk) result.log result.ended }
-    ensures stopped { IfErr result.ended (IsStoppedBy D.view (IsDue script result.opening result.log) (λ place. ⊥) disk result.disk result.opening result.log) }
+    ensures ran { HasRun any_order D.view (new_manager alloc settings) settings script disk result.disk result.opening result.log result.ended }
 {
     let Ok(d) = Desk::new(alloc, settings, script) else {
         unreachable!()

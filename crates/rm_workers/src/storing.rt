@@ -4,7 +4,7 @@ ghost use Rattle.rm_types.specs.declared.entries.Entry.{Entry as AnyEntry};
 ghost use Rattle.rm_types.specs.Ranges.{IsOperation};
 ghost use Rattle.rm_model.specs.Place.{close_left};
 ghost use Rattle.rm_store.specs.Store.{StoreInvariant};
-ghost use Rattle.rm_plain.specs.Keeping.{armed_by};
+ghost use Rattle.rm_lives.specs.Keeping.{armed_by};
 ghost use Rattle.rm_workers.specs.Turns.{WrittenFact};
 ghost use Rattle.rm_workers.specs.Work.{Owing};
 
@@ -12,7 +12,7 @@ use crate::since::Since;
 use crate::turns::Written;
 use rm_desk::Desk;
 use rm_disk::Disk;
-use rm_plain::halt_of;
+use rm_lives::halt_of;
 use rm_store::Store;
 use rm_types::{Close, NoMemory, Op};
 

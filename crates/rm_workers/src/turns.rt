@@ -1,14 +1,15 @@
 ghost use Rattle.std.specs.Prelude.{◌≡◌};
-ghost use Rattle.rm_workers.specs.Waking.{calls_any, next_of};
+ghost use Rattle.rm_workers.specs.Turns.{lane_of_told, lane_of_turn};
+ghost use Rattle.rm_workers.specs.Waking.{calls_any, is_called, next_of, rung_by, without_worker};
 
 use crate::called::Called;
-use rm_plain::Halt;
+use rm_lives::Halt;
 use rm_types::{Lane, Op};
 
-/// What a helper's move came to, and its hold.
+/// What a helper's move came to.
 #[derive(Clone, Copy, PartialEq, Eq)]
 pub(crate) enum Helped {
-    /// Its lane moved: in a hold, as often as it may.
+    /// Its lane moved.
     Moved,
     /// Its lane wasn't ready.
     Still,
@@ -17,12 +18,13 @@ pub(crate) enum Helped {
 }
 
 impl Helped {
-    /// What the worker does after a hold, where these others are called. One whose lane may be ready still gives way to them.
-    pub(crate) fn next(self, others: Called) -> Next
-        ensures { result ≡ next_of self (calls_any others) }
+    /// What the lane's worker does after the hold, where these are called, and it may or mayn't go on before others.
+    pub(crate) fn next(self, lane: Lane, called: Called, may: bool) -> Next
+        ensures { result ≡ next_of self (is_called called lane) (calls_any (without_worker lane called)) may }
     {
         match self {
-            Helped::Moved if others.is_any() => Next::GivesWay,
+            Helped::Moved if !called.has(lane) => Next::Sleeps,
+            Helped::Moved if !may && called.without(lane).is_any() => Next::GivesWay,
             Helped::Moved => Next::GoesOn,
             Helped::Still => Next::Sleeps,
             Helped::Over => Next::Leaves,
@@ -41,6 +43,18 @@ pub(crate) enum Next {
     Sleeps,
     /// It makes no more turns.
     Leaves,
+}
+
+impl Next {
+    /// Whose bells ring behind the hold, where these others are called, and those were before it.
+    pub(crate) fn rings(self, before: Called, others: Called) -> Called
+        ensures { result ≡ rung_by self before others }
+    {
+        match self {
+            Next::GoesOn => others.but(before),
+            Next::GivesWay | Next::Sleeps | Next::Leaves => others,
+        }
+    }
 }
 
 /// How the store's worker ended.
@@ -67,6 +81,42 @@ pub(crate) enum Turn {
     Write(Op),
     /// There are no more turns.
     Ends(End),
+}
+
+impl Turn {
+    /// The lane of the entry that it added; where it added none, that in which operations are handed.
+    pub(crate) fn lane(&self) -> Lane
+        ensures { result ≡ lane_of_turn self.now }
+    {
+        match self {
+            Turn::Moved(lane) => *lane,
+            Turn::Ends(End::Down { .. } | End::Halted(_)) => Lane::End,
+            Turn::Out | Turn::Wait | Turn::Write(_) | Turn::Ends(End::Over) => Lane::Hand,
+        }
+    }
+}
+
+/// What a hold after a write came to.
+#[derive(Clone, Copy, PartialEq, Eq)]
+pub(crate) enum Told {
+    /// The manager learned what became of the operation.
+    Learned,
+    /// No memory was found for that.
+    Halted(Halt),
+    /// No operation was with the store.
+    Absent,
+}
+
+impl Told {
+    /// The lane of the entry that the hold added; where it added none, that in which operations are handed.
+    pub(crate) fn lane(self) -> Lane
+        ensures { result ≡ lane_of_told self }
+    {
+        match self {
+            Told::Learned => Lane::Write,
+            Told::Halted(_) | Told::Absent => Lane::Hand,
+        }
+    }
 }
 
 /// What a write came to.

@@ -2,6 +2,7 @@
 ghost use Rattle.std.specs.Prelude.{◌≡◌, false};
 ghost use Rattle.rm_baton.specs.Passes.{IsPassOf};
 ghost use Rattle.rm_baton.specs.Views.{view};
+ghost use Rattle.rm_workers.specs.Holds.{LeavesNothing};
 ghost use Rattle.rm_workers.specs.Turns.{EndFact, IsHelpers};
 ghost use Rattle.rm_workers.specs.Work.{IsHelper, IsHelperOf, Knows, Serving};
 
@@ -21,7 +22,10 @@ use std::sync::Wait;
 use std::thread;
 use std::thread::Threads;
 
-// The turns of one lane's worker, until the life is over or a halt stands.
+/// How many holds in a row a helper has at most before it gives way to those who can move, so that nobody waits long for the baton.
+const MOST_HOLDS: u32 = 1_024;
+
+// The holds of one lane's worker, until the life is over or a halt stands.
 fn help_to_end<S: Since, G: Gate, R: Wait>(
     rt: &R,
     baton: &Baton<Held<S>>,
@@ -35,23 +39,26 @@ fn help_to_end<S: Since, G: Gate, R: Wait>(
     requires lane { IsHelpers lane }
     ensures of { IsPassOf baton.now result }
     ensures helper { IsHelper (view result) }
+    ensures left { LeavesNothing (view result) }
 {
+    let mut row: u32 = 0;
     'holds: for _ in rt.forever() {
         if let Some(sender) = lane.sender() {
             gate.before_serve(sender);
         }
-        match hold_help(rt, baton, bells, &mut pass, lane) {
-            None => bells.sleep(rt, lane),
-            Some(next) => {
-                gate.after_hold(lane);
-                match next {
-                    Next::GoesOn => {}
-                    Next::GivesWay => bells.nap(rt, lane),
-                    Next::Sleeps => bells.sleep(rt, lane),
-                    Next::Leaves => return pass,
-                }
+        let may_go_on = row < MOST_HOLDS;
+        row = match hold_help(rt, baton, gate, bells, &mut pass, lane, may_go_on) {
+            Some(Next::GoesOn) => row.saturating_add(1),
+            Some(Next::Sleeps) => {
+                bells.sleep(rt, lane);
+                0
             }
-        }
+            Some(Next::GivesWay) | None => {
+                bells.nap(rt, lane);
+                0
+            }
+            Some(Next::Leaves) => return pass,
+        };
     }
     unreachable!()
 }

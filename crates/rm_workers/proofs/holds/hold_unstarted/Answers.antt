@@ -1,6 +1,6 @@
 -- A store that serves the life may halt it at any time.
 use Rattle.rm_baton.specs.Views.{view}
-use Rattle.rm_plain.specs.declared.halts.Halt.TheVariants.{Memory}
+use Rattle.rm_lives.specs.declared.halts.Halt.TheVariants.{Memory}
 use Rattle.rm_workers.specs.Work.{Halting, Serving}
 use Rattle.rm_workers.proofs.PassLemmas.{knows_then}
 use Rattle.rm_workers.proofs.TurnLemmas.{serving_halts}

@@ -1,7 +1,7 @@
 -- What the store's worker knew when it ended is so of the desk that is handed out.
 use Rattle.std.proofs.Common.{sym, ◌∙◌, ap, Option}
 use Rattle.std.specs.Prelude.{is_some}
-use Rattle.rm_plain.specs.declared.halts.Halt.{Halt}
+use Rattle.rm_lives.specs.declared.halts.Halt.{Halt}
 use Rattle.rm_workers.proofs.LifeEndLemmas.{finish_down, finish_halted, finish_rested, finish_stopped, none_of}
 use Rattle.rm_workers.proofs.lives.finish.Goals as goal
 

@@ -1,7 +1,7 @@
 use Rattle.std.proofs.Common.{Ok, sym, ◌∙◌, subst, refl}
 use Rattle.rm_types.proofs.TestLemmas.{on_ok}
-use Rattle.rm_plain.specs.Later.{FirstTo}
-use Rattle.rm_plain.proofs.Finishing.{all_lived, first_stops, none_left, none_lived, some_left}
+use Rattle.rm_lives.specs.Later.{FirstTo}
+use Rattle.rm_lives.proofs.Finishing.{all_lived, first_stops, none_left, none_lived, some_left}
 use Rattle.rm_workers.specs.AnyOrder.{any_order}
 use Rattle.rm_workers.proofs.runs.all_lives.Goals as goal
 

@@ -1,5 +1,5 @@
-use Rattle.rm_plain.proofs.Finishing.{none_stands, some_left}
-use Rattle.rm_plain.proofs.Onward.{first_to, own_first, unfounded_stops}
+use Rattle.rm_lives.proofs.Finishing.{none_stands, some_left}
+use Rattle.rm_lives.proofs.Onward.{first_to, own_first, unfounded_stops}
 use Rattle.rm_workers.specs.AnyOrder.{any_order}
 use Rattle.rm_workers.proofs.runs.first_life.Goals as goal
 

@@ -1,7 +1,7 @@
 use Rattle.std.proofs.Common.{sym, ◌∙◌, subst}
-use Rattle.rm_plain.specs.Later.{LaterTo}
-use Rattle.rm_plain.proofs.Finishing.{none_after}
-use Rattle.rm_plain.proofs.Onward.{lives_same, lives_trans, stops_after}
+use Rattle.rm_lives.specs.Later.{LaterTo}
+use Rattle.rm_lives.proofs.Finishing.{none_after}
+use Rattle.rm_lives.proofs.Onward.{lives_same, lives_trans, stops_after}
 use Rattle.rm_workers.specs.AnyOrder.{any_order}
 use Rattle.rm_workers.proofs.runs.later_lives.Goals as goal
 

@@ -1,7 +1,7 @@
 use Rattle.std.proofs.Common.{◌≢◌, length, []}
 use Rattle.rm_store.specs.Store.{seen}
-use Rattle.rm_plain.specs.Keeping.{IsKeptOn}
-use Rattle.rm_plain.specs.Starts.{IsAtEase, Lives}
+use Rattle.rm_lives.specs.Keeping.{IsKeptOn}
+use Rattle.rm_lives.specs.Starts.{IsAtEase, Lives}
 use Rattle.rm_workers.specs.AnyOrder.{any_order}
 use Rattle.rm_workers.proofs.runs.later_lives.Given as goal
 

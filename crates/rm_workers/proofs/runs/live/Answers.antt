@@ -4,19 +4,19 @@ use Rattle.rm_disk.specs.Disk.{DiskView}
 use Rattle.rm_disk.specs.Fuse.{Fused}
 use Rattle.rm_desk.specs.View.{DeskView}
 use Rattle.rm_store.specs.Store.{StoreState}
-use Rattle.rm_plain.specs.declared.halts.Halt.{Halt}
-use Rattle.rm_plain.specs.declared.lives.LifeEnd.{LifeEnd}
-use Rattle.rm_plain.specs.declared.lives.LifeEnd.TheVariants.{Rest, Down}
-use Rattle.rm_plain.specs.Lives.{EndsBy}
+use Rattle.rm_lives.specs.declared.halts.Halt.{Halt}
+use Rattle.rm_lives.specs.declared.moves.LifeEnd.{LifeEnd}
+use Rattle.rm_lives.specs.declared.moves.LifeEnd.TheVariants.{Rest, Down}
+use Rattle.rm_lives.specs.Lives.{EndsBy}
 use Rattle.rm_types.specs.declared.messages.Lane.TheVariants.{Begin}
 use Rattle.rm_types.specs.declared.operations.Op.{Op}
 use Rattle.rm_store.specs.Store.{seen}
 use Rattle.rm_core.specs.Moves.{IsLeftAfter}
-use Rattle.rm_plain.specs.Keeping.{IsFoundOn}
-use Rattle.rm_plain.specs.declared.halts.Stop.{Stop}
-use Rattle.rm_plain.specs.Starts.{LivesTo, LeavesAtEnd}
-use Rattle.rm_plain.proofs.Finishing.{none_stands, some_left}
-use Rattle.rm_plain.proofs.Starting.{lived, unbegun}
+use Rattle.rm_lives.specs.Keeping.{IsFoundOn}
+use Rattle.rm_lives.specs.declared.halts.Stop.{Stop}
+use Rattle.rm_lives.specs.Starts.{LivesTo, LeavesAtEnd}
+use Rattle.rm_lives.proofs.Finishing.{none_stands, some_left}
+use Rattle.rm_lives.proofs.Starting.{lived, unbegun}
 use Rattle.rm_workers.specs.AnyOrder.{any_order}
 use Rattle.rm_workers.proofs.MoveLemmas.{may_any}
 use Rattle.rm_workers.proofs.runs.live.Goals as goal
