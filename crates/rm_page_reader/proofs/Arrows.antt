@@ -16,10 +16,11 @@ use Rattle.rm_page.proofs.Bytes.{lacks, lacks-append, cut, cut_at, cut_last, cut
 use Rattle.rm_page.proofs.ReadLists.{without_last, without_last-push}
 use Rattle.rm_page.proofs.ReadMessages.{message_front, message_are, message_pieces, cut_message}
 use Rattle.rm_page.proofs.ReadReplies.{reply_front, reply_are}
-use Rattle.rm_page_reader.specs.declared.errors.LineError.{LineError}
+use Rattle.rm_lines.specs.declared.errors.LineError.{LineError}
 use Rattle.rm_page_reader.specs.Answers.{frees, is_free, served_text}
-use Rattle.rm_page_reader.specs.Results.{IsFirstCut, IsLastCut}
-use Rattle.rm_page_reader.proofs.Halves.{behind_same, cut_same}
+use Rattle.rm_lines.specs.Cuts.{IsFirstCut}
+use Rattle.rm_page_reader.specs.Results.{IsLastCut}
+use Rattle.rm_lines.proofs.Splits.{behind_same, cut_same}
 
 -- ---- cuts
 

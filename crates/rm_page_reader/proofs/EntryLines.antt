@@ -11,16 +11,15 @@ use Rattle.rm_formats.specs.Page.{line_of}
 use Rattle.rm_formats.specs.Wording.{spaced, message_words, message_text, reply_words, reply_text}
 use Rattle.rm_page.specs.Ranges.{IsPageReply, IsPageServed, MayAnswer}
 use Rattle.rm_page.proofs.Bytes.{cut, cut_at}
-use Rattle.rm_script.proofs.Parts.{differ}
-use Rattle.rm_page_reader.specs.declared.errors.LineError.{LineError}
-use Rattle.rm_page_reader.specs.declared.errors.LineError.TheVariants.{NotALine, Memory}
+use Rattle.rm_lines.proofs.Parts.{differ}
 use Rattle.rm_page_reader.specs.Answers.{GivesLine, HasSender, IsPlain, IsToldEntry, served_entry, served_text}
 use Rattle.rm_page_reader.specs.Pieces.{entry_pieces, reply_pieces}
-use Rattle.rm_page_reader.specs.Results.{FindsLine, FindsNoLine}
-use Rattle.rm_script.specs.Results.{IsOf}
-use Rattle.rm_page_reader.specs.Told.{IsOfScript, IsManagerEntry}
-use Rattle.rm_page_reader.proofs.Halves.{behind_same, cut_same}
+use Rattle.rm_lines.specs.Results.{Finds, FindsNone, IsOf}
+use Rattle.rm_lines.proofs.Splits.{behind_same, cut_same}
 use Rattle.rm_page_reader.proofs.Lines.{body_is, plain_line, plain_is, not_served, plain_found, served_line, cut_reply_text, same_answers}
+use Rattle.rm_lines.specs.declared.errors.LineError.{LineError}
+use Rattle.rm_lines.specs.declared.errors.LineError.TheVariants.{Refused, Memory}
+use Rattle.rm_page_reader.specs.Told.{IsOfScript, IsManagerEntry}
 
 -- an answered message's entry has the line of this message and this reply
 record IsAnswered (entry : Entry) : Type 0 where
@@ -82,7 +81,7 @@ lone_served text word more first is_served behind entry is e = by_kind (kind_of 
         cc
 
 -- a line whose first word is another
-pub other_found : (text word : List ℕ) (more : List (List ℕ)) (answer : Result Entry LineError) → cut 32 text ≡ word ∷ more → bytes_eq word (codes "served") ≡ false → FindsLine answer (IsOf entry_pieces IsPlain (word ∷ more))
+pub other_found : (text word : List ℕ) (more : List (List ℕ)) (answer : Result Entry LineError) → cut 32 text ≡ word ∷ more → bytes_eq word (codes "served") ≡ false → Finds answer (IsOf entry_pieces IsPlain (word ∷ more))
     → (entry : Entry) → IsManagerEntry entry → line_of entry ≡ text ++ codes "\n" → GivesLine answer entry
 other_found text word more answer first other finds entry is e = by_kind (kind_of entry is text e)
   where
@@ -119,9 +118,9 @@ pub served_told : (message : Message) (reply : Reply) → IsPageServed message r
 served_told message reply is = record { ranges = is; heard = refl; sender = refl }
 
 -- what `?` hands on where no reply is found says that memory ran out, where there is one
-pub stops_line : (answer : Result Entry LineError) (error : LineError) (entry : Entry) (IsPart : Reply → Type 0) (reply : Reply) → IsErrAnd answer (λ returned. returned ≡ error) → FindsNoLine error IsPart → IsPart reply → GivesLine answer entry
+pub stops_line : (answer : Result Entry LineError) (error : LineError) (entry : Entry) (IsPart : Reply → Type 0) (reply : Reply) → IsErrAnd answer (λ returned. returned ≡ error) → FindsNone error IsPart → IsPart reply → GivesLine answer entry
 stops_line (Ok value) error entry IsPart reply same none is = absurd same
-stops_line (Err returned) NotALine entry IsPart reply same none is = absurd (none reply is)
+stops_line (Err returned) (Refused fault) entry IsPart reply same none is = absurd (none reply is)
 stops_line (Err returned) Memory entry IsPart reply same none is = rw same tt
 
 -- a reply with this one's text answers the same message

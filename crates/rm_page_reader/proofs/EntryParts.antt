@@ -15,11 +15,10 @@ use Rattle.rm_types.specs.Ranges.{IsText, IsAppId, IsAttemptId, IsContainerId}
 use Rattle.rm_formats.specs.IdTexts.{app_text, attempt_text, container_text}
 use Rattle.rm_formats.specs.Wording.{bracketed}
 use Rattle.rm_page.specs.Ranges.{IsPageHeld, IsGrant}
-use Rattle.rm_script.proofs.Parts.{differ, heads}
+use Rattle.rm_lines.proofs.Parts.{differ, heads, Starts}
 use Rattle.rm_page_reader.specs.Answers.{IsPlain}
 use Rattle.rm_page_reader.specs.Pieces.{entry_pieces}
-use Rattle.rm_script.specs.Results.{IsOf}
-use Rattle.rm_page_reader.proofs.Found.{Starts}
+use Rattle.rm_lines.specs.Results.{IsOf}
 
 first_word : List (List ℕ) → List ℕ
 first_word [] = []

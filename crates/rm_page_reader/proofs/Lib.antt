@@ -1,9 +1,5 @@
-pub mod MessageRanges
 pub mod Fronts
-pub mod Halves
-pub mod Found
-pub mod Listing
-pub mod Scripting
+pub mod Saying
 pub mod Moving
 pub mod Paging
 pub mod Lines
@@ -12,6 +8,6 @@ pub mod EntryLines
 pub mod EntryParts
 pub mod Soaking
 pub mod Joined
+pub mod Listing
 pub mod OpParts
 pub mod ReplyParts
-pub mod Modify

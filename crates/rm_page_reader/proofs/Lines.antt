@@ -28,14 +28,13 @@ use Rattle.rm_page.proofs.ReadLists.{ComesBack, without_last, without_last-push,
 use Rattle.rm_page.proofs.ReadMessages.{ids_back}
 use Rattle.rm_page.proofs.ReadReplies.{reply_pieces as pieces_of, cut_reply, replies_show}
 use Rattle.rm_page.proofs.ReadEntries.{has_line}
-use Rattle.rm_page_reader.specs.declared.errors.LineError.{LineError}
-use Rattle.rm_page_reader.specs.declared.errors.LineError.TheVariants.{NotALine, Memory}
-use Rattle.rm_script.proofs.Parts.{differ}
+use Rattle.rm_lines.specs.declared.errors.LineError.{LineError}
+use Rattle.rm_lines.specs.declared.errors.LineError.TheVariants.{Refused, Memory}
+use Rattle.rm_lines.proofs.Parts.{differ}
 use Rattle.rm_page_reader.specs.Answers.{GivesLine, IsPlain, served_text}
 use Rattle.rm_page_reader.specs.Pieces.{op_pieces, reply_pieces, entry_pieces}
-use Rattle.rm_page_reader.specs.Results.{FindsLine}
-use Rattle.rm_script.specs.Results.{IsOf}
-use Rattle.rm_page_reader.proofs.Halves.{cut_same}
+use Rattle.rm_lines.specs.Results.{Finds, IsOf}
+use Rattle.rm_lines.proofs.Splits.{cut_same}
 
 -- a line without its line feed
 pub body_is : (one other : List ℕ) → one ++ codes "\n" ≡ other ++ codes "\n" → one ≡ other
@@ -153,9 +152,9 @@ not_served entries.Settled more is e = differ (codes "settled") (codes "served")
 not_served entries.Down more is e = differ (codes "down") (codes "served") refl (ap first_word e)
 
 -- what is found of a line that says of no message that it was answered has that line
-pub plain_found : (entry : Entry) (text : List ℕ) (answer : Result Entry LineError) → FindsLine answer (IsOf entry_pieces IsPlain (cut 32 text)) → IsPlain entry → line_of entry ≡ text ++ codes "\n" → GivesLine answer entry
+pub plain_found : (entry : Entry) (text : List ℕ) (answer : Result Entry LineError) → Finds answer (IsOf entry_pieces IsPlain (cut 32 text)) → IsPlain entry → line_of entry ≡ text ++ codes "\n" → GivesLine answer entry
 plain_found entry text (Ok found) of is e = plain_same found text of.fits of.same ∙ sym e
-plain_found entry text (Err NotALine) none is e = none entry (record { same = plain_line entry is text e; fits = is })
+plain_found entry text (Err (Refused fault)) none is e = none entry (record { same = plain_line entry is text e; fits = is })
 plain_found entry text (Err Memory) none is e = tt
 
 -- ---- lines of answered messages

@@ -17,11 +17,10 @@ use Rattle.rm_formats.specs.Wording.{how_text}
 use Rattle.rm_page.proofs.Bytes.{cut}
 use Rattle.rm_page.proofs.ReadIds.{read_attempt, read_container, attempt_back, container_back}
 use Rattle.rm_page.proofs.ReadOperations.{submission_pieces}
-use Rattle.rm_script.proofs.Parts.{differ}
+use Rattle.rm_lines.proofs.Parts.{differ, first_same, left_same}
 use Rattle.rm_page_reader.specs.Pieces.{op_pieces}
-use Rattle.rm_script.specs.Results.{IsOf}
-use Rattle.rm_page_reader.proofs.Found.{first_same, left_same}
-use Rattle.rm_page_reader.proofs.Halves.{behind_same}
+use Rattle.rm_lines.specs.Results.{IsOf}
+use Rattle.rm_lines.proofs.Splits.{behind_same}
 
 -- the first word, and those behind it
 abbrev pub first_word : List (List ℕ) → List ℕ

@@ -17,18 +17,19 @@ use Rattle.rm_formats.specs.Page.{line, line_of, lane_letter, letters, moves_lin
 use Rattle.rm_page.specs.Shown.{is_silent, shown}
 use Rattle.rm_page.proofs.Bytes.{lacks, lacks-append, cut, cut_at, cut_last}
 use Rattle.rm_page.proofs.ReadEntries.{has_line, lines_show}
-use Rattle.rm_script.proofs.Parts.{differ}
-use Rattle.rm_page_reader.specs.declared.errors.LineError.{LineError}
-use Rattle.rm_page_reader.specs.declared.errors.LineError.TheVariants.{NotALine, Memory}
-use Rattle.rm_page_reader.specs.Answers.{AreHeard, AreLetters, Fit, HasSender, IsFirstLine, IsMemory, IsToldEntry, IsWant}
-use Rattle.rm_page_reader.specs.Results.{IsFirstCut, at_page_line}
+use Rattle.rm_lines.proofs.Parts.{differ}
+use Rattle.rm_page_reader.specs.Answers.{AreHeard, AreLetters, Fit, HasSender, IsMemory, IsToldEntry, IsWant}
+use Rattle.rm_lines.specs.Cuts.{IsFirstLine, IsFirstCut}
+use Rattle.rm_page_reader.specs.Results.{at_page_line}
+use Rattle.rm_lines.proofs.Splits.{behind_same, cut_some, cut_same}
+use Rattle.rm_lines.specs.declared.errors.LineError.{LineError}
+use Rattle.rm_lines.specs.declared.errors.LineError.TheVariants.{Refused, Memory}
 use Rattle.rm_page_reader.specs.declared.errors.PageError.{PageError}
 use Rattle.rm_page_reader.specs.declared.errors.PageError.TheVariants as page_errors
 use Rattle.rm_page_reader.specs.declared.pages.Page.{Page}
 use Rattle.rm_page_reader.specs.declared.soaks.SoakLine.{SoakLine}
 use Rattle.rm_page_reader.specs.Soaks.{IsSoak, soak_text}
 use Rattle.rm_page_reader.specs.Told.{IsManagerEntry, IsNoPage, heard}
-use Rattle.rm_page_reader.proofs.Halves.{behind_same, cut_some, cut_same}
 use Rattle.rm_page_reader.proofs.Moving.{heard-silent, heard-heard, lines-heard, fit_log}
 
 -- ---- first lines
@@ -268,7 +269,7 @@ end_is log moves told is = by_left is.left is.are is.text is.lines is.same_lette
 -- ---- what a page's error says
 
 pub want_at : (error : LineError) (line : ℕ) → IsMemory error → IsWant (at_page_line error line)
-want_at NotALine line is = absurd is
+want_at (Refused fault) line is = absurd is
 want_at Memory line is = tt
 
 -- whether bytes are left

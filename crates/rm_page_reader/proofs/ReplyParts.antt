@@ -15,12 +15,10 @@ use Rattle.rm_types.specs.Ranges.{IsAppId, IsContainerId}
 use Rattle.rm_formats.specs.IdTexts.{app_text, container_text}
 use Rattle.rm_formats.specs.Wording.{bracketed, grant_text, closing_text, denial_words}
 use Rattle.rm_page.specs.Ranges.{IsWord32, IsGrant, IsClosing, IsPageReply, IsDenial, IsPageReport}
-use Rattle.rm_script.proofs.Parts.{differ}
-use Rattle.rm_page_reader.specs.declared.errors.LineError.{LineError}
+use Rattle.rm_lines.proofs.Parts.{differ, found_as}
 use Rattle.rm_page_reader.specs.Pieces.{IsBare, IsServiceWord, reply_pieces, report_pieces}
-use Rattle.rm_page_reader.specs.Results.{FindsLine}
-use Rattle.rm_script.specs.Results.{IsOf}
-use Rattle.rm_page_reader.proofs.Found.{found_as}
+use Rattle.rm_lines.specs.Results.{Finds, IsOf}
+use Rattle.rm_lines.specs.declared.errors.LineError.{LineError}
 use Rattle.rm_page_reader.proofs.OpParts.{first_word, behind_first}
 
 -- a reply of one word is that word alone
@@ -44,7 +42,7 @@ bare_said word (replies.NodeRegistered turn epoch) of = absurd (let e = ap behin
 bare_said word (replies.Beat id launch clean) of = absurd (let e = ap behind_first of.same in cc)
 bare_said word reply of = ap first_word of.same
 
-pub bare_found : (word : List ℕ) (words left : List (List ℕ)) (answer : Result Reply LineError) → words ≡ word ∷ left → left ≡ [] → FindsLine answer (IsBare word) → FindsLine answer (IsOf reply_pieces IsPageReply words)
+pub bare_found : (word : List ℕ) (words left : List (List ℕ)) (answer : Result Reply LineError) → words ≡ word ∷ left → left ≡ [] → Finds answer (IsBare word) → Finds answer (IsOf reply_pieces IsPageReply words)
 bare_found word words left answer first none finds =
     let whole : words ≡ word ∷ [] = first ∙ ap (λ (more : List (List ℕ)). word ∷ more) none in
     rw whole (found_as (IsBare word) (IsOf reply_pieces IsPageReply (word ∷ [])) answer (bare_is word) (bare_said word) finds)
@@ -79,10 +77,10 @@ bare_service word notopen submitted badid retired noqueue toolarge full unknown 
 bare_service word notopen submitted badid retired noqueue toolarge full unknown killing ended reply e = e
 
 -- a word that is none of those to a client
-pub to_service : (word : List ℕ) (answer : Result Reply LineError) → FindsLine answer (IsServiceWord word)
+pub to_service : (word : List ℕ) (answer : Result Reply LineError) → Finds answer (IsServiceWord word)
     → bytes_eq word (codes "NOTOPEN") ≡ false → bytes_eq word (codes "submitted") ≡ false → bytes_eq word (codes "BADID") ≡ false → bytes_eq word (codes "RETIRED") ≡ false
     → bytes_eq word (codes "NOQUEUE") ≡ false → bytes_eq word (codes "TOOLARGE") ≡ false → bytes_eq word (codes "FULL") ≡ false → bytes_eq word (codes "UNKNOWN") ≡ false
-    → bytes_eq word (codes "killing") ≡ false → bytes_eq word (codes "ended") ≡ false → FindsLine answer (IsBare word)
+    → bytes_eq word (codes "killing") ≡ false → bytes_eq word (codes "ended") ≡ false → Finds answer (IsBare word)
 to_service word answer finds notopen submitted badid retired noqueue toolarge full unknown killing ended =
     found_as (IsServiceWord word) (IsBare word) answer (service_bare word) (bare_service word notopen submitted badid retired noqueue toolarge full unknown killing ended) finds
 

@@ -5,11 +5,12 @@ use Rattle.rm_formats.specs.Wording.{spaced}
 use Rattle.rm_page.proofs.Bytes.{cut, AreWords, words_lack, joined_lacks, number_word}
 use Rattle.rm_page.proofs.ReadOperations.{cut_words}
 use Rattle.rm_page_reader.specs.declared.soaks.SoakLine.{SoakLine}
-use Rattle.rm_page_reader.specs.declared.errors.LineError.{LineError}
-use Rattle.rm_page_reader.specs.declared.errors.LineError.TheVariants.{NotALine, Memory}
-use Rattle.rm_page_reader.specs.Answers.{IsFirstLine, IsWant}
-use Rattle.rm_page_reader.specs.Results.{FindsNoLine, at_page_line}
-use Rattle.rm_script.specs.Results.{IsOf}
+use Rattle.rm_lines.specs.declared.errors.LineError.{LineError}
+use Rattle.rm_lines.specs.declared.errors.LineError.TheVariants.{Refused, Memory}
+use Rattle.rm_lines.specs.Cuts.{IsFirstLine}
+use Rattle.rm_page_reader.specs.Answers.{IsWant}
+use Rattle.rm_lines.specs.Results.{FindsNone, IsOf}
+use Rattle.rm_page_reader.specs.Results.{at_page_line}
 use Rattle.rm_page_reader.specs.Soaks.{IsSoak, soak_pieces, soak_text}
 use Rattle.rm_page_reader.proofs.Paging.{first_line_is}
 
@@ -48,8 +49,8 @@ pub soak_same : (one other : SoakLine) → soak_pieces one ≡ soak_pieces other
 soak_same one other e = soak_spaced one ∙ ap (λ (words : List (List ℕ)). spaced words ++ codes "\n") e ∙ sym (soak_spaced other)
 
 -- a line that tells no soak is that of none
-pub soak_wants : (bytes line after : List ℕ) (error : LineError) → IsFirstLine bytes line after → FindsNoLine error (IsOf soak_pieces IsSoak (cut 32 line)) → (soak : SoakLine) → IsSoak soak → bytes ≡ soak_text soak → IsWant (at_page_line error 1)
-soak_wants bytes line after NotALine first none soak is e = absurd (none soak (record { same = soak_cut soak bytes line after is e first; fits = is }))
+pub soak_wants : (bytes line after : List ℕ) (error : LineError) → IsFirstLine bytes line after → FindsNone error (IsOf soak_pieces IsSoak (cut 32 line)) → (soak : SoakLine) → IsSoak soak → bytes ≡ soak_text soak → IsWant (at_page_line error 1)
+soak_wants bytes line after (Refused fault) first none soak is e = absurd (none soak (record { same = soak_cut soak bytes line after is e first; fits = is }))
 soak_wants bytes line after Memory first none soak is e = tt
 
 -- what is told is written as the bytes

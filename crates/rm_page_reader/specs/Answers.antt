@@ -9,26 +9,18 @@ use Rattle.rm_types.specs.declared.messages.MasterAsk.TheVariants as masters
 use Rattle.rm_types.specs.declared.messages.Message.{Message}
 use Rattle.rm_types.specs.declared.messages.Message.TheVariants as messages
 use Rattle.rm_types.specs.declared.replies.Reply.{Reply}
-use Rattle.rm_types.specs.declared.scripts.Close.TheVariants.{Settle}
-use Rattle.rm_types.specs.declared.scripts.Script.{Script}
 use Rattle.rm_types.specs.Lanes.{sender_of}
 use Rattle.rm_formats.specs.Page.{line_of, letters, page}
 use Rattle.rm_formats.specs.Wording.{message_text, reply_text}
 use Rattle.rm_page.specs.Ranges.{IsEntry}
 use Rattle.rm_page.specs.Shown.{is_silent}
-use Rattle.rm_page_reader.specs.declared.errors.LineError.{LineError}
-use Rattle.rm_page_reader.specs.declared.errors.LineError.TheVariants as line_errors
+use Rattle.rm_lines.specs.declared.errors.LineError.{LineError}
+use Rattle.rm_lines.specs.declared.errors.LineError.TheVariants as line_errors
 use Rattle.rm_page_reader.specs.declared.errors.PageError.{PageError}
 use Rattle.rm_page_reader.specs.declared.errors.PageError.TheVariants as page_errors
-use Rattle.rm_page.proofs.Bytes.{lacks}
-use Rattle.rm_page_reader.specs.Results.{IsFirstCut}
 use Rattle.rm_page_reader.specs.Told.{heard}
 
 -- ---- answered messages
-
--- the script of one life that is given one message
-abbrev pub lone_script : Message → Script
-lone_script message = record { lives = record { stamp = 1; segments = record { messages = message ∷ []; close = Settle } ∷ [] } ∷ [] }
 
 -- spaces may stand in the last text of a message from this sender that asks for this
 abbrev pub is_free : List ℕ → List ℕ → Bool
@@ -50,7 +42,7 @@ served_entry message reply = entries.Served (sender_of message) message reply
 
 -- an error says that memory ran out
 abbrev pub IsMemory : LineError → Type 0
-IsMemory line_errors.NotALine = ⊥
+IsMemory (line_errors.Refused fault) = ⊥
 IsMemory line_errors.Memory = Unit {0}
 
 -- the answer is this value, unless memory ran out
@@ -106,10 +98,6 @@ pub record IsLogOf (heard : List Entry) (moves : List ℕ) (log : List Entry) : 
 abbrev pub IsWant : PageError → Type 0
 IsWant (page_errors.NotAPage line) = ⊥
 IsWant page_errors.Memory = Unit {0}
-
--- the first line without its line feed, and what stands behind it; the last line may lack its line feed
-abbrev pub IsFirstLine : List ℕ → List ℕ → List ℕ → Type 0
-IsFirstLine bytes line after = IsFirstCut 10 bytes line after ⊎ ((lacks 10 bytes ≡ true) × (line ≡ bytes) × (after ≡ []))
 
 -- entries that have the lines of a log, and letters of the same lanes
 pub record AreHeard (log : List Entry) (told : List Entry) : Type 0 where

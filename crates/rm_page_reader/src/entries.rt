@@ -10,17 +10,20 @@ ghost use Rattle.rm_page.specs.Ranges.{IsEntry, IsGrant, IsPageServed, MayAnswer
 ghost use Rattle.rm_page.proofs.Bytes.{cut, lacks};
 ghost use Rattle.rm_page_reader.specs.Answers.{GivesLine, IsPlain, IsToldEntry, frees, is_free, served_entry, served_text};
 ghost use Rattle.rm_page_reader.specs.Pieces.{entry_pieces};
-ghost use Rattle.rm_page_reader.specs.Results.{FindsLine, TakesWord, IsLastCut};
-ghost use Rattle.rm_script.specs.Results.{IsOf};
+ghost use Rattle.rm_page_reader.specs.Results.{IsLastCut};
+ghost use Rattle.rm_lines.specs.Results.{Finds, IsOf};
 ghost use Rattle.rm_page_reader.specs.Told.{IsOfScript, IsManagerEntry};
 ghost use Rattle.rm_types.specs.declared.entries.Entry.TheVariants.{Pass};
 
-use crate::errors::LineError;
-use crate::lists::{ByContainer, NO_SIZE, Reading, Whole, bracketed, cause, list_behind};
+use crate::lists::{ByContainer, NO_SIZE, Whole, bracketed, cause};
 use crate::messages::message;
 use crate::operations::operation;
+use crate::parts::{long_number, number, text};
 use crate::replies::reply;
-use crate::words::{Words, before, behind, halves};
+use rm_lines::{
+    LineError, LineFault, Reading, Words, app_id, attempt_id, container_id, halves, text_before,
+    text_behind,
+};
 use rm_types::{
     Boxed, ClientAsk, ContainerId, Duplicate, Entry, Grant, Held, Items, Message, NoMemory, Reply,
     Sender, Text, TextKind,
@@ -42,9 +45,9 @@ pub(crate) fn entry(alloc: Global, line: &[u8]) -> Result<Entry, LineError>
 }
 
 /// An entry that says of no message that it was answered, by the first word of its line and the others.
-#[tactic(auto, using(crate::proofs::Found::at_word, crate::proofs::EntryParts::no_entry))]
+#[tactic(auto, using(rm_lines::proofs::Parts::at_word, crate::proofs::EntryParts::no_entry))]
 fn plain(alloc: Global, word: &[u8], words: Words<'_>) -> Result<Entry, LineError>
-    ensures { FindsLine result (IsOf entry_pieces IsPlain (word.now ∷ words.entry)) }
+    ensures { Finds result (IsOf entry_pieces IsPlain (word.now ∷ words.entry)) }
 {
     if word == "opened".as_bytes() {
         opened(words)
@@ -71,26 +74,26 @@ fn plain(alloc: Global, word: &[u8], words: Words<'_>) -> Result<Entry, LineErro
     } else if word == "down".as_bytes() {
         down(words)
     } else {
-        Err(LineError::NotALine)
+        Err(LineError::Refused(LineFault::Form))
     }
 }
 
 fn settled(words: Words<'_>) -> Result<Entry, LineError>
-    ensures { FindsLine result (IsOf entry_pieces IsPlain (codes "settled" ∷ words.entry)) }
+    ensures { Finds result (IsOf entry_pieces IsPlain (codes "settled" ∷ words.entry)) }
 {
     words.end()?;
     Ok(Entry::Settled)
 }
 
 fn down(words: Words<'_>) -> Result<Entry, LineError>
-    ensures { FindsLine result (IsOf entry_pieces IsPlain (codes "down" ∷ words.entry)) }
+    ensures { Finds result (IsOf entry_pieces IsPlain (codes "down" ∷ words.entry)) }
 {
     words.end()?;
     Ok(Entry::Down)
 }
 
 fn issued(alloc: Global, words: Words<'_>) -> Result<Entry, LineError>
-    ensures { FindsLine result (IsOf entry_pieces IsPlain (codes "issued" ∷ words.entry)) }
+    ensures { Finds result (IsOf entry_pieces IsPlain (codes "issued" ∷ words.entry)) }
 {
     let op = operation(alloc, words)?;
     Ok(Entry::Issued {
@@ -99,7 +102,7 @@ fn issued(alloc: Global, words: Words<'_>) -> Result<Entry, LineError>
 }
 
 fn kept(alloc: Global, words: Words<'_>) -> Result<Entry, LineError>
-    ensures { FindsLine result (IsOf entry_pieces IsPlain (codes "kept" ∷ words.entry)) }
+    ensures { Finds result (IsOf entry_pieces IsPlain (codes "kept" ∷ words.entry)) }
 {
     let op = operation(alloc, words)?;
     Ok(Entry::Kept {
@@ -108,11 +111,11 @@ fn kept(alloc: Global, words: Words<'_>) -> Result<Entry, LineError>
 }
 
 fn opened(mut words: Words<'_>) -> Result<Entry, LineError>
-    ensures { FindsLine result (IsOf entry_pieces IsPlain (codes "opened" ∷ words.entry)) }
+    ensures { Finds result (IsOf entry_pieces IsPlain (codes "opened" ∷ words.entry)) }
 {
-    let landed = words.number(b"landed=")?;
-    let epoch = words.number(b"epoch=")?;
-    let stamp = words.long_number(b"stamp=")?;
+    let landed = number(words.field(b"landed=")?)?;
+    let epoch = number(words.field(b"epoch=")?)?;
+    let stamp = long_number(words.field(b"stamp=")?)?;
     words.end()?;
     Ok(Entry::Opened {
         landed,
@@ -122,9 +125,9 @@ fn opened(mut words: Words<'_>) -> Result<Entry, LineError>
 }
 
 fn blown(mut words: Words<'_>) -> Result<Entry, LineError>
-    ensures { FindsLine result (IsOf entry_pieces IsPlain (codes "blown" ∷ words.entry)) }
+    ensures { Finds result (IsOf entry_pieces IsPlain (codes "blown" ∷ words.entry)) }
 {
-    let passed = words.number(b"passed=")?;
+    let passed = number(words.field(b"passed=")?)?;
     words.end()?;
     Ok(Entry::Blown { passed })
 }
@@ -138,7 +141,7 @@ fn served(alloc: Global, text: &[u8]) -> Result<Entry, LineError>
     let message = message(alloc, asked)?;
     let reply = reply(alloc, answered)?;
     if !may_answer(&message, &reply) {
-        return Err(LineError::NotALine);
+        return Err(LineError::Refused(LineFault::Form));
     }
     Ok(served_of(alloc, message, reply)?)
 }
@@ -161,7 +164,7 @@ fn around_arrow(text: &[u8]) -> Result<(&[u8], &[u8]), LineError>
     ensures some { (message : AnyMessage) (reply : AnyReply) → IsPageServed message reply → text.now ≡ served_text message reply → IfErr result (λ error. ⊥) }
 {
     let (front, back) = at_arrow(text)?;
-    Ok((before(front, b" -")?, behind(back, b" ")?))
+    Ok((text_before(front, b" -")?, text_behind(back, b" ")?))
 }
 
 /// What stands before the arrow's `>`, and what behind it.
@@ -172,12 +175,12 @@ fn at_arrow(text: &[u8]) -> Result<(&[u8], &[u8]), LineError>
     if may_have_spaces(text)? {
         match last_halves(text, b'>') {
             Some((front, back)) => Ok((front, back)),
-            None => Err(LineError::NotALine),
+            None => Err(LineError::Refused(LineFault::Form)),
         }
     } else {
         match halves(text, b'>') {
             Some((front, back)) => Ok((front, back)),
-            None => Err(LineError::NotALine),
+            None => Err(LineError::Refused(LineFault::Form)),
         }
     }
 }
@@ -228,56 +231,55 @@ fn may_answer(message: &Message, reply: &Reply) -> bool
 }
 
 fn accepted(mut words: Words<'_>) -> Result<Entry, LineError>
-    ensures { FindsLine result (IsOf entry_pieces IsPlain (codes "accepted" ∷ words.entry)) }
+    ensures { Finds result (IsOf entry_pieces IsPlain (codes "accepted" ∷ words.entry)) }
 {
-    let app = words.app_id()?;
+    let app = app_id(words.word()?)?;
     words.end()?;
     Ok(Entry::Accepted { app })
 }
 
 fn queued(mut words: Words<'_>) -> Result<Entry, LineError>
-    ensures { FindsLine result (IsOf entry_pieces IsPlain (codes "queued" ∷ words.entry)) }
+    ensures { Finds result (IsOf entry_pieces IsPlain (codes "queued" ∷ words.entry)) }
 {
-    let attempt = words.attempt_id()?;
+    let attempt = attempt_id(words.word()?)?;
     words.end()?;
     Ok(Entry::Queued { attempt })
 }
 
 fn absorbed(alloc: Global, mut words: Words<'_>) -> Result<Entry, LineError>
-    ensures { FindsLine result (IsOf entry_pieces IsPlain (codes "absorbed" ∷ words.entry)) }
+    ensures { Finds result (IsOf entry_pieces IsPlain (codes "absorbed" ∷ words.entry)) }
 {
-    let node = boxed_node(alloc, &mut words)?;
-    let taken = boxed_list::<ByContainer, Held>(alloc, &mut words, b"taken=")?;
-    let ended = boxed_list::<Whole, ContainerId>(alloc, &mut words, b"ended=")?;
+    let node = boxed_node(alloc, words.word()?)?;
+    let taken = boxed_list::<ByContainer, Held>(alloc, words.field(b"taken=")?)?;
+    let ended = boxed_list::<Whole, ContainerId>(alloc, words.field(b"ended=")?)?;
     words.end()?;
     Ok(Entry::Absorbed { node, taken, ended })
 }
 
-/// Takes the next word, a node's name.
-fn boxed_node(alloc: Global, words: &mut Words<'_>) -> Result<Boxed<Text>, LineError>
-    ensures { TakesWord result (λ node. node) (IsText Node) words.old words.new }
+/// A node's name.
+fn boxed_node(alloc: Global, word: &[u8]) -> Result<Boxed<Text>, LineError>
+    ensures { Finds result (IsOf (λ node. node) (IsText Node) word.now) }
 {
-    let node = words.name(alloc, TextKind::Node)?;
+    let node = text(alloc, word, TextKind::Node)?;
     Ok(Boxed::new(alloc, node)?)
 }
 
-/// Takes the next word, and gives the list in brackets that stands in it behind a name.
+/// A list in brackets.
 fn boxed_list<R: Reading<T>, T: Drop>(
     alloc: Global,
-    words: &mut Words<'_>,
-    name: &[u8],
+    bytes: &[u8],
 ) -> Result<Boxed<Items<T>>, LineError>
-    ensures { TakesWord result (λ items. name.now ++ bracketed (map R.text items)) (All R.is) words.old words.new }
+    ensures { Finds result (IsOf (λ items. bracketed (map R.text items)) (All R.is) bytes.now) }
 {
-    let list = list_behind::<R, T>(alloc, words, name)?;
+    let list = bracketed::<R, T>(alloc, bytes)?;
     Ok(Boxed::new(alloc, list)?)
 }
 
 fn pass(alloc: Global, mut words: Words<'_>) -> Result<Entry, LineError>
-    ensures { FindsLine result (IsOf entry_pieces IsPlain (codes "pass" ∷ words.entry)) }
+    ensures { Finds result (IsOf entry_pieces IsPlain (codes "pass" ∷ words.entry)) }
 {
-    let node = words.name(alloc, TextKind::Node)?;
-    let ids = list_behind::<Whole, ContainerId>(alloc, &mut words, b"grants=")?;
+    let node = text(alloc, words.word()?, TextKind::Node)?;
+    let ids = bracketed::<Whole, ContainerId>(alloc, words.field(b"grants=")?)?;
     words.end()?;
     let grants = grants_on(alloc, &node, &ids)?;
     Ok(pass_of(alloc, node, grants)?)
@@ -320,10 +322,10 @@ fn grant_on(node: &Text, id: ContainerId) -> Result<Grant, NoMemory>
 }
 
 fn ordered(alloc: Global, mut words: Words<'_>) -> Result<Entry, LineError>
-    ensures { FindsLine result (IsOf entry_pieces IsPlain (codes "ordered" ∷ words.entry)) }
+    ensures { Finds result (IsOf entry_pieces IsPlain (codes "ordered" ∷ words.entry)) }
 {
-    let container = words.container_id()?;
-    let node = boxed_node(alloc, &mut words)?;
+    let container = container_id(words.word()?)?;
+    let node = boxed_node(alloc, words.word()?)?;
     words.end()?;
     Ok(Entry::Ordered {
         container: Boxed::new(alloc, container)?,
@@ -332,7 +334,7 @@ fn ordered(alloc: Global, mut words: Words<'_>) -> Result<Entry, LineError>
 }
 
 fn ended(alloc: Global, mut words: Words<'_>) -> Result<Entry, LineError>
-    ensures { FindsLine result (IsOf entry_pieces IsPlain (codes "ended" ∷ words.entry)) }
+    ensures { Finds result (IsOf entry_pieces IsPlain (codes "ended" ∷ words.entry)) }
 {
     let cause = cause(words.word()?)?;
     let list = bracketed::<Whole, ContainerId>(alloc, words.word()?)?;

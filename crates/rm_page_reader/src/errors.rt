@@ -1,10 +1,10 @@
 ghost use Rattle.std.specs.Prelude.{◌≡◌};
-ghost use Rattle.rm_page_reader.specs.declared.errors.LineError.TheVariants.{Memory};
 ghost use Rattle.rm_page_reader.specs.declared.errors.PageError.TheVariants as pages;
 ghost use Rattle.rm_page_reader.specs.Results.{at_page_line};
 
+use rm_lines::LineError;
 use rm_types::NoMemory;
-use std::alloc::{AllocError, AllocFailed};
+use std::alloc::AllocError;
 use thiserror::Error;
 
 /// Why a page wasn't read.
@@ -34,49 +34,14 @@ impl From<AllocError> for PageError {
     }
 }
 
-/// Why a line wasn't read, or a part of one.
-#[derive(Clone, Copy, Debug, Error)]
-pub(crate) enum LineError {
-    /// It is no such line.
-    #[error("not such a line")]
-    NotALine,
-    /// No memory was found.
-    #[error("out of memory")]
-    Memory,
-}
-
-impl LineError {
-    /// The same of the page whose line this is.
-    pub(crate) fn at(self, line: u32) -> PageError
-        ensures { result ≡ at_page_line self line }
+impl PageError {
+    /// The error of the page whose line was read with this one.
+    pub(crate) fn at(error: LineError, line: u32) -> PageError
+        ensures { result ≡ at_page_line error line }
     {
-        match self {
-            LineError::NotALine => PageError::NotAPage { line },
+        match error {
+            LineError::Refused(_) => PageError::NotAPage { line },
             LineError::Memory => PageError::Memory,
         }
-    }
-}
-
-impl From<NoMemory> for LineError {
-    ghost from_gives = { λ _ error. error ≡ Memory };
-
-    fn from(_error: NoMemory) -> LineError {
-        LineError::Memory
-    }
-}
-
-impl From<AllocError> for LineError {
-    ghost from_gives = { λ _ error. error ≡ Memory };
-
-    fn from(_error: AllocError) -> LineError {
-        LineError::Memory
-    }
-}
-
-impl<T: Drop> From<AllocFailed<T>> for LineError {
-    ghost from_gives = { λ _ error. error ≡ Memory };
-
-    fn from(_failed: AllocFailed<T>) -> LineError {
-        LineError::Memory
     }
 }

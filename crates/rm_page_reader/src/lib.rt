@@ -7,7 +7,7 @@
 //! part answers.
 //!
 //! It stands on `rm_types` for the values, on `rm_page`, which writes what was read again, on `rm_script`, whose lines
-//! messages are, on `rm_formats` for the texts of ids, and on `itoa` for digits.
+//! messages are, on `rm_lines` for the words of a line, on `rm_formats` for the texts of ids, and on `itoa` for digits.
 #![tactic(auto)]
 
 mod entries;
@@ -18,9 +18,9 @@ mod messages;
 mod moves;
 mod operations;
 mod pages;
+mod parts;
 mod replies;
 mod soaks;
-mod words;
 
 pub use errors::PageError;
 pub use laws::law_one_reading;

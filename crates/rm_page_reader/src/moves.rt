@@ -5,7 +5,7 @@ ghost use Rattle.rm_page.specs.Ranges.{IsEntry};
 ghost use Rattle.rm_page.specs.Shown.{is_silent};
 ghost use Rattle.rm_page_reader.specs.Answers.{Fit, IsLogOf, IsSilentLetter, IsToldEntry};
 
-use crate::errors::LineError;
+use rm_lines::{LineError, LineFault};
 use rm_page::page;
 use rm_types::{Entry, Items, Lane};
 use std::alloc::Global;
@@ -41,14 +41,14 @@ pub(crate) fn with_moves(
     let mut left = heard.into_vec().into_iter();
     'letters: for letter in moves {
         if is_at(own, place, *letter) {
-            log.push(left.next().ok_or(LineError::NotALine)?)?;
+            log.push(left.next().ok_or(LineError::Refused(LineFault::Form))?)?;
             place += 1;
         } else {
             log.push(silent(*letter)?)?;
         }
     }
     match left.next() {
-        Some(_) => Err(LineError::NotALine),
+        Some(_) => Err(LineError::Refused(LineFault::Form)),
         None => Ok(log),
     }
 }
@@ -82,7 +82,7 @@ fn silent(letter: u8) -> Result<Entry, LineError>
         b'h' => Ok(Entry::Handed),
         b'd' => Ok(Entry::Quiet { lane: Lane::Main }),
         b's' => Ok(Entry::Quiet { lane: Lane::Sched }),
-        _ => Err(LineError::NotALine),
+        _ => Err(LineError::Refused(LineFault::Form)),
     }
 }
 

@@ -5,16 +5,16 @@ ghost use Rattle.rm_page.specs.Ranges.{IsEntry};
 ghost use Rattle.rm_page.proofs.Bytes.{lacks};
 ghost use Rattle.rm_formats.specs.Page.{page};
 ghost use Rattle.rm_page_reader.specs.declared.soaks.SoakLine.{SoakLine as AnySoak};
-ghost use Rattle.rm_page_reader.specs.Answers.{AreHeard, AreLetters, IsFirstLine, IsToldEntry, IsWant};
+ghost use Rattle.rm_page_reader.specs.Answers.{AreHeard, AreLetters, IsToldEntry, IsWant};
+ghost use Rattle.rm_lines.specs.Cuts.{IsFirstLine, IsFirstCut};
 ghost use Rattle.rm_page_reader.specs.Soaks.{IsSoak, soak_text};
-ghost use Rattle.rm_page_reader.specs.Results.{IsFirstCut};
 ghost use Rattle.rm_page_reader.specs.Told.{IsManagerEntry, IsNoPage, Tells, heard};
 
 use crate::entries::entry;
 use crate::errors::PageError;
 use crate::moves::{is_heard, letters_in, with_moves};
 use crate::soaks::{SoakLine, soak_line, soak_page};
-use crate::words::halves;
+use rm_lines::cut_line;
 use rm_page::page;
 use rm_types::{Entry, Items};
 use std::alloc::Global;
@@ -73,7 +73,7 @@ fn read_soak(alloc: Global, bytes: &[u8]) -> Result<Page, PageError>
     let (line, _rest) = cut_line(bytes);
     let soak = match soak_line(line) {
         Ok(soak) => soak,
-        Err(error) => return Err(error.at(1)),
+        Err(error) => return Err(PageError::at(error, 1)),
     };
     let written = soak_page(alloc, soak)?;
     if written.as_slice() == bytes {
@@ -130,7 +130,7 @@ fn logged(alloc: Global, bytes: &[u8]) -> Result<(Items<Entry>, bool), PageError
     };
     match with_moves(alloc, lines.heard, letters) {
         Ok(log) => Ok((log, true)),
-        Err(error) => Err(error.at(lines.count)),
+        Err(error) => Err(PageError::at(error, lines.count)),
     }
 }
 
@@ -164,7 +164,7 @@ fn read_lines(alloc: Global, bytes: &[u8]) -> Result<Lines<'_>, PageError>
         }
         match entry(alloc, line) {
             Ok(entry) => heard.push(entry)?,
-            Err(error) => return Err(error.at(count)),
+            Err(error) => return Err(PageError::at(error, count)),
         }
         rest = after;
     }
@@ -173,17 +173,6 @@ fn read_lines(alloc: Global, bytes: &[u8]) -> Result<Lines<'_>, PageError>
         letters: None,
         count,
     })
-}
-
-/// The first line without its line feed, and what stands behind it.
-fn cut_line(bytes: &[u8]) -> (&[u8], &[u8])
-    ensures cut { IsFirstLine bytes.now result.0.now result.1.now }
-    ensures shorter { 0 < length bytes.now → length result.1.now < length bytes.now }
-{
-    match halves(bytes, b'\n') {
-        Some(halves) => halves,
-        None => (bytes, &[]),
-    }
 }
 
 /// The refusal of bytes that a text was read of which they aren't: at the line in which they differ first.

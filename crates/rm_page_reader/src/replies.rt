@@ -3,12 +3,11 @@ ghost use Rattle.rm_formats.specs.Wording.{acl_op_text, state_text, denial_words
 ghost use Rattle.rm_page.specs.Ranges.{IsPageReply, IsDenial, IsPageReport};
 ghost use Rattle.rm_page.proofs.Bytes.{cut};
 ghost use Rattle.rm_page_reader.specs.Pieces.{IsBare, IsServiceWord, report_pieces, reply_pieces};
-ghost use Rattle.rm_page_reader.specs.Results.{FindsLine};
-ghost use Rattle.rm_script.specs.Results.{IsOf};
+ghost use Rattle.rm_lines.specs.Results.{Finds, IsOf};
 
-use crate::errors::LineError;
-use crate::lists::{Whole, list_behind, listed};
-use crate::words::Words;
+use crate::lists::{Whole, bracketed, listed};
+use crate::parts::{number, text};
+use rm_lines::{LineError, LineFault, Part, Words, app_id};
 use rm_types::{
     AclOp, Closing, ContainerId, Denial, Grant, Reply, Report, StateWord, Text, TextKind,
 };
@@ -16,7 +15,7 @@ use std::alloc::Global;
 
 /// A reply by its text.
 pub(crate) fn reply(alloc: Global, text: &[u8]) -> Result<Reply, LineError>
-    ensures { FindsLine result (IsOf reply_pieces IsPageReply (cut 32 text.now)) }
+    ensures { Finds result (IsOf reply_pieces IsPageReply (cut 32 text.now)) }
 {
     let mut words = Words::of(text);
     let word = words.word()?;
@@ -30,7 +29,7 @@ pub(crate) fn reply(alloc: Global, text: &[u8]) -> Result<Reply, LineError>
 /// The reply that is this word alone.
 #[tactic(auto, using(crate::proofs::ReplyParts::to_service))]
 fn bare_reply(word: &[u8]) -> Result<Reply, LineError>
-    ensures { FindsLine result (IsBare word.now) }
+    ensures { Finds result (IsBare word.now) }
 {
     if word == "NOTOPEN".as_bytes() {
         Ok(Reply::NotOpen)
@@ -60,7 +59,7 @@ fn bare_reply(word: &[u8]) -> Result<Reply, LineError>
 /// The same of the replies to masters and nodes.
 #[tactic(auto, using(crate::proofs::ReplyParts::no_service))]
 fn service_reply(word: &[u8]) -> Result<Reply, LineError>
-    ensures { FindsLine result (IsServiceWord word.now) }
+    ensures { Finds result (IsServiceWord word.now) }
 {
     if word == "registered".as_bytes() {
         Ok(Reply::MasterRegistered)
@@ -81,15 +80,15 @@ fn service_reply(word: &[u8]) -> Result<Reply, LineError>
     } else if word == "ok".as_bytes() {
         Ok(Reply::Ok)
     } else {
-        Err(LineError::NotALine)
+        Err(LineError::Refused(LineFault::Form))
     }
 }
 
 /// A reply of more words, by the first and the others.
-#[tactic(auto, using(crate::proofs::Found::at_word, crate::proofs::ReplyParts::no_reply))]
+#[tactic(auto, using(rm_lines::proofs::Parts::at_word, crate::proofs::ReplyParts::no_reply))]
 fn long_reply(alloc: Global, word: &[u8], words: Words<'_>) -> Result<Reply, LineError>
     requires { words ≢ [] }
-    ensures { FindsLine result (IsOf reply_pieces IsPageReply (word.now ∷ words.entry)) }
+    ensures { Finds result (IsOf reply_pieces IsPageReply (word.now ∷ words.entry)) }
 {
     if word == "new".as_bytes() {
         new(words)
@@ -104,31 +103,31 @@ fn long_reply(alloc: Global, word: &[u8], words: Words<'_>) -> Result<Reply, Lin
     } else if word == "beat".as_bytes() {
         beat(alloc, words)
     } else {
-        Err(LineError::NotALine)
+        Err(LineError::Refused(LineFault::Form))
     }
 }
 
 fn new(mut words: Words<'_>) -> Result<Reply, LineError>
-    ensures { FindsLine result (IsOf reply_pieces IsPageReply (codes "new" ∷ words.entry)) }
+    ensures { Finds result (IsOf reply_pieces IsPageReply (codes "new" ∷ words.entry)) }
 {
-    let id = words.app_id()?;
+    let id = app_id(words.word()?)?;
     words.end()?;
     Ok(Reply::New(id))
 }
 
 fn denied(alloc: Global, words: Words<'_>) -> Result<Reply, LineError>
-    ensures { FindsLine result (IsOf reply_pieces IsPageReply (codes "DENIED" ∷ words.entry)) }
+    ensures { Finds result (IsOf reply_pieces IsPageReply (codes "DENIED" ∷ words.entry)) }
 {
     Ok(Reply::Denied(denial(alloc, words)?))
 }
 
 fn denial(alloc: Global, mut words: Words<'_>) -> Result<Denial, LineError>
-    ensures { FindsLine result (IsOf denial_words IsDenial (codes "DENIED" ∷ words.entry)) }
+    ensures { Finds result (IsOf denial_words IsDenial (codes "DENIED" ∷ words.entry)) }
 {
     let op = acl_op(words.word()?)?;
-    let queue = words.name(alloc, TextKind::Queue)?;
+    let queue = text(alloc, words.word()?, TextKind::Queue)?;
     if !matches!(words.word()?, b"by") {
-        return Err(LineError::NotALine);
+        return Err(LineError::Refused(LineFault::Form));
     }
     let lists = listed::<Whole, Text>(alloc, words.word()?)?;
     words.end()?;
@@ -137,31 +136,31 @@ fn denial(alloc: Global, mut words: Words<'_>) -> Result<Denial, LineError>
 
 /// What a right was asked for, by its word.
 fn acl_op(word: &[u8]) -> Result<AclOp, LineError>
-    ensures { FindsLine result (λ op. word.now ≡ acl_op_text op) }
+    ensures { Finds result (λ op. word.now ≡ acl_op_text op) }
 {
     match word {
         b"submit" => Ok(AclOp::Submit),
         b"kill" => Ok(AclOp::Kill),
-        _ => Err(LineError::NotALine),
+        _ => Err(LineError::Refused(LineFault::Form)),
     }
 }
 
 fn told(alloc: Global, words: Words<'_>) -> Result<Reply, LineError>
-    ensures { FindsLine result (IsOf reply_pieces IsPageReply (codes "report" ∷ words.entry)) }
+    ensures { Finds result (IsOf reply_pieces IsPageReply (codes "report" ∷ words.entry)) }
 {
     Ok(Reply::Report(report(alloc, words)?))
 }
 
 fn report(alloc: Global, mut words: Words<'_>) -> Result<Report, LineError>
-    ensures { FindsLine result (IsOf report_pieces IsPageReport words.entry) }
+    ensures { Finds result (IsOf report_pieces IsPageReport words.entry) }
 {
     let state = state(words.field(b"state=")?)?;
-    let user = words.text(alloc, b"user=", TextKind::Name)?;
-    let queue = words.text(alloc, b"queue=", TextKind::Queue)?;
-    let name = words.text(alloc, b"name=", TextKind::Name)?;
-    let attempts = words.number(b"attempts=")?;
-    let live = words.number(b"live=")?;
-    let text = words.last_text(alloc, b"text=", TextKind::Note)?;
+    let user = text(alloc, words.field(b"user=")?, TextKind::Name)?;
+    let queue = text(alloc, words.field(b"queue=")?, TextKind::Queue)?;
+    let name = text(alloc, words.field(b"name=")?, TextKind::Name)?;
+    let attempts = number(words.field(b"attempts=")?)?;
+    let live = number(words.field(b"live=")?)?;
+    let text = words.last_text(alloc, b"text=", Part::Other, TextKind::Note)?;
     Ok(Report {
         state,
         user,
@@ -175,7 +174,7 @@ fn report(alloc: Global, mut words: Words<'_>) -> Result<Report, LineError>
 
 /// The state of an application, by its word.
 fn state(word: &[u8]) -> Result<StateWord, LineError>
-    ensures { FindsLine result (λ state. word.now ≡ state_text state) }
+    ensures { Finds result (λ state. word.now ≡ state_text state) }
 {
     match word {
         b"NEW" => Ok(StateWord::New),
@@ -186,16 +185,16 @@ fn state(word: &[u8]) -> Result<StateWord, LineError>
         b"FINISHED" => Ok(StateWord::Finished),
         b"FAILED" => Ok(StateWord::Failed),
         b"KILLED" => Ok(StateWord::Killed),
-        _ => Err(LineError::NotALine),
+        _ => Err(LineError::Refused(LineFault::Form)),
     }
 }
 
 fn allocated(alloc: Global, mut words: Words<'_>) -> Result<Reply, LineError>
-    ensures { FindsLine result (IsOf reply_pieces IsPageReply (codes "allocated" ∷ words.entry)) }
+    ensures { Finds result (IsOf reply_pieces IsPageReply (codes "allocated" ∷ words.entry)) }
 {
-    let id = words.number(b"id=")?;
-    let grants = list_behind::<Whole, Grant>(alloc, &mut words, b"grants=")?;
-    let ended = list_behind::<Whole, Closing>(alloc, &mut words, b"ended=")?;
+    let id = number(words.field(b"id=")?)?;
+    let grants = bracketed::<Whole, Grant>(alloc, words.field(b"grants=")?)?;
+    let ended = bracketed::<Whole, Closing>(alloc, words.field(b"ended=")?)?;
     words.end()?;
     Ok(Reply::Allocated { id, grants, ended })
 }
@@ -203,7 +202,7 @@ fn allocated(alloc: Global, mut words: Words<'_>) -> Result<Reply, LineError>
 /// A registration: a master's with the containers that it is handed, which are one word, or a node's.
 fn registered(alloc: Global, words: Words<'_>) -> Result<Reply, LineError>
     requires { words ≢ [] }
-    ensures { FindsLine result (IsOf reply_pieces IsPageReply (codes "registered" ∷ words.entry)) }
+    ensures { Finds result (IsOf reply_pieces IsPageReply (codes "registered" ∷ words.entry)) }
 {
     if words.is_last() {
         took(alloc, words)
@@ -214,9 +213,9 @@ fn registered(alloc: Global, words: Words<'_>) -> Result<Reply, LineError>
 
 fn took(alloc: Global, mut words: Words<'_>) -> Result<Reply, LineError>
     requires { length words ≡ 1 }
-    ensures { FindsLine result (IsOf reply_pieces IsPageReply (codes "registered" ∷ words.entry)) }
+    ensures { Finds result (IsOf reply_pieces IsPageReply (codes "registered" ∷ words.entry)) }
 {
-    let kept = list_behind::<Whole, Grant>(alloc, &mut words, b"kept=")?;
+    let kept = bracketed::<Whole, Grant>(alloc, words.field(b"kept=")?)?;
     words.end()?;
     Ok(Reply::Took { kept })
 }
@@ -224,20 +223,20 @@ fn took(alloc: Global, mut words: Words<'_>) -> Result<Reply, LineError>
 fn node_registered(mut words: Words<'_>) -> Result<Reply, LineError>
     requires more { words ≢ [] }
     requires long { length words ≢ 1 }
-    ensures { FindsLine result (IsOf reply_pieces IsPageReply (codes "registered" ∷ words.entry)) }
+    ensures { Finds result (IsOf reply_pieces IsPageReply (codes "registered" ∷ words.entry)) }
 {
-    let turn = words.number(b"turn=")?;
-    let epoch = words.number(b"epoch=")?;
+    let turn = number(words.field(b"turn=")?)?;
+    let epoch = number(words.field(b"epoch=")?)?;
     words.end()?;
     Ok(Reply::NodeRegistered { turn, epoch })
 }
 
 fn beat(alloc: Global, mut words: Words<'_>) -> Result<Reply, LineError>
-    ensures { FindsLine result (IsOf reply_pieces IsPageReply (codes "beat" ∷ words.entry)) }
+    ensures { Finds result (IsOf reply_pieces IsPageReply (codes "beat" ∷ words.entry)) }
 {
-    let id = words.number(b"id=")?;
-    let launch = list_behind::<Whole, ContainerId>(alloc, &mut words, b"launch=")?;
-    let clean = list_behind::<Whole, ContainerId>(alloc, &mut words, b"clean=")?;
+    let id = number(words.field(b"id=")?)?;
+    let launch = bracketed::<Whole, ContainerId>(alloc, words.field(b"launch=")?)?;
+    let clean = bracketed::<Whole, ContainerId>(alloc, words.field(b"clean=")?)?;
     words.end()?;
     Ok(Reply::Beat { id, launch, clean })
 }

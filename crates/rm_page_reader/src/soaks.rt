@@ -1,13 +1,12 @@
 ghost use Rattle.std.specs.Prelude.{◌≡◌, ◌∷◌, ◌++◌, IfOk, OnOk, codes};
 ghost use Rattle.std.specs.Fmt.{decimal};
 ghost use Rattle.rm_page.proofs.Bytes.{cut};
-ghost use Rattle.rm_page_reader.specs.Results.{FindsLine};
-ghost use Rattle.rm_script.specs.Results.{IsOf};
+ghost use Rattle.rm_lines.specs.Results.{Finds, IsOf};
 ghost use Rattle.rm_page_reader.specs.Soaks.{IsSoak, soak_pieces, soak_text};
 
-use crate::errors::LineError;
-use crate::words::{Words, number};
+use crate::parts::{long_number, number};
 use itoa::Buffer;
+use rm_lines::{LineError, LineFault, Words};
 use rm_types::NoMemory;
 use std::alloc::Global;
 
@@ -25,26 +24,26 @@ pub struct SoakLine {
 
 /// The line of a soak, without its line feed.
 pub(crate) fn soak_line(line: &[u8]) -> Result<SoakLine, LineError>
-    ensures { FindsLine result (IsOf soak_pieces IsSoak (cut 32 line.now)) }
+    ensures { Finds result (IsOf soak_pieces IsSoak (cut 32 line.now)) }
 {
     let mut words = Words::of(line);
     if words.word()? == "soak".as_bytes() {
         numbers(words)
     } else {
-        Err(LineError::NotALine)
+        Err(LineError::Refused(LineFault::Form))
     }
 }
 
 /// The same by the words behind the first.
 fn numbers(mut words: Words<'_>) -> Result<SoakLine, LineError>
-    ensures { FindsLine result (IsOf soak_pieces IsSoak (codes "soak" ∷ words.entry)) }
+    ensures { Finds result (IsOf soak_pieces IsSoak (codes "soak" ∷ words.entry)) }
 {
     let apps = number(words.word()?)?;
-    let lives = words.long_number(b"lives=")?;
-    let served = words.long_number(b"served=")?;
-    let grants = words.long_number(b"grants=")?;
-    let finished = words.long_number(b"finished=")?;
-    let kept = words.long_number(b"kept=")?;
+    let lives = long_number(words.field(b"lives=")?)?;
+    let served = long_number(words.field(b"served=")?)?;
+    let grants = long_number(words.field(b"grants=")?)?;
+    let finished = long_number(words.field(b"finished=")?)?;
+    let kept = long_number(words.field(b"kept=")?)?;
     words.end()?;
     Ok(SoakLine {
         apps,

@@ -1,5 +1,5 @@
 -- What a page tells is in the ranges of its entries.
-use Rattle.std.proofs.Common.{◌≡◌, ℕ, List, [], All, not, subst, sym}
+use Rattle.std.proofs.Common.{ℕ, List, [], All, not, subst, sym}
 use Rattle.std.proofs.lemmas.List.Elements.{All-filter, All-from_recursion}
 use Rattle.rm_page.specs.Ranges.{IsEntry}
 use Rattle.rm_page.specs.Shown.{is_silent}

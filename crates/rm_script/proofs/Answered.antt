@@ -6,7 +6,7 @@ use Rattle.std.proofs.lemmas.Option.{same_Some}
 use Rattle.rm_types.specs.declared.scripts.Script.{Script}
 use Rattle.rm_script.specs.declared.errors.ScriptError.{ScriptError}
 use Rattle.rm_script.specs.declared.errors.ScriptError.TheVariants.{Refused, Memory}
-use Rattle.rm_script.specs.Lines.{lines_of}
+use Rattle.rm_lines.specs.Lines.{lines_of}
 use Rattle.rm_script.specs.Scripts.{Spell, IsScript}
 use Rattle.rm_script.specs.Refusals.{Stand, StopAfter, StopAtEnd, IsFirstRefused}
 use Rattle.rm_script.specs.Reading.{script_of_draft, FailsAfter, FailsAtEnd, AnswersReading}

@@ -1,13 +1,13 @@
 -- The line of a number, and the limit that it breaks.
 use Rattle.std.proofs.Common.{◌≡◌, ◌≢◌, ℕ, zero, suc, ◌-◌, ◌<◌, ◌≤◌, ◌⊎◌, inl, inr, Bool, true, false, cond, eqb, List, [], ◌∷◌, length, drop, Some, None, refl, sym, ap, ◌∙◌, arith}
-use Rattle.std.specs.Prelude.{slice_get, ◌↔◌}
+use Rattle.std.specs.Prelude.{slice_get}
 use Rattle.std.proofs.lemmas.Bool.Decides.{eqb_tells}
 use Rattle.std.proofs.lemmas.List.{length-drop}
 use Rattle.std.proofs.lemmas.Option.{slice_get_past}
 use Rattle.rm_script.specs.declared.faults.Limit.{Limit}
 use Rattle.rm_script.specs.declared.faults.ScriptFault.{ScriptFault}
 use Rattle.rm_script.specs.declared.faults.ScriptFault.TheVariants as faults
-use Rattle.rm_script.specs.Lines.{lines_of}
+use Rattle.rm_lines.specs.Lines.{lines_of}
 use Rattle.rm_script.specs.Faults.{line_at, IsOtherFault}
 use Rattle.rm_script.proofs.Loop.{IsCut}
 

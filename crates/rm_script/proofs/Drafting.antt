@@ -21,7 +21,7 @@ use Rattle.rm_script.specs.Spelling.{sent_text, start_text, settled_lines, life_
 use Rattle.rm_script.specs.Scripts.{IsReadMessage, IsSent, IsCrash, IsLife, EndsByCrash}
 use Rattle.rm_types.specs.Limits.{greatest_stamp}
 use Rattle.rm_script.specs.Reading.{settled, crashed, told, line_text, with_start, with_settle, with_crash, with_message, with_loss, with_line, with_each_line, IsCrashLine, IsLine}
-use Rattle.rm_script.proofs.Labels.{bound}
+use Rattle.rm_lines.proofs.Parts.{bound}
 
 -- a script as it is written, as far as its lines go: the lives that crashed, and the life that goes on
 pub data Written : Type 0 where

@@ -8,11 +8,12 @@ use Rattle.rm_formats.specs.IdTexts.{container_text}
 use Rattle.rm_formats.specs.Wording.{held_text, ask_text}
 use Rattle.rm_page.proofs.Bytes.{lacks, lacks_failing, is_part_byte, decimal_made, join_cut, cut_joined}
 use Rattle.rm_page.proofs.ReadIds.{container_lacks}
-use Rattle.rm_script.specs.declared.errors.LineError.{LineError}
-use Rattle.rm_script.specs.declared.errors.LineError.TheVariants.{Refused, Memory}
+use Rattle.rm_lines.specs.declared.errors.LineError.{LineError}
+use Rattle.rm_lines.specs.declared.errors.LineError.TheVariants.{Refused, Memory}
 use Rattle.rm_types.specs.Messages.{IsHeld, IsAsk}
-use Rattle.rm_script.specs.Results.{IsOf, Finds}
-use Rattle.rm_script.specs.Words.{cut, held_parts, ask_parts}
+use Rattle.rm_lines.specs.Results.{IsOf, Finds}
+use Rattle.rm_page.proofs.Bytes.{cut}
+use Rattle.rm_script.specs.Pieces.{held_parts, ask_parts}
 
 -- what is found by the parts is found of the whole
 rejoined : {X : Type 0} (written : X → List ℕ) (parts : X → List (List ℕ)) (Fits : X → Type 0) → ((x : X) → written x ≡ join_with_byte 58 (parts x)) → ((x : X) → Fits x → cut 58 (written x) ≡ parts x)

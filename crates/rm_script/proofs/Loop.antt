@@ -7,19 +7,20 @@ use Rattle.std.proofs.lemmas.List.Concat.{flat_map-append}
 use Rattle.std.proofs.lemmas.List.Elements.{All-push, filter-append, recursion_from_All}
 use Rattle.std.proofs.lemmas.Option.{same_Some}
 use Rattle.rm_types.specs.declared.scripts.Script.{Script}
-use Rattle.rm_script.specs.declared.errors.LineError.{LineError}
-use Rattle.rm_script.specs.declared.errors.LineError.TheVariants as faults
+use Rattle.rm_lines.specs.declared.errors.LineError.{LineError}
+use Rattle.rm_lines.specs.declared.errors.LineError.TheVariants as faults
 use Rattle.rm_script.specs.declared.errors.ScriptError.TheVariants as scripts
 use Rattle.rm_script.specs.declared.drafts.Draft.{Draft}
 use Rattle.rm_script.specs.declared.lines.Line.{Line}
 use Rattle.rm_script.specs.declared.lines.Line.TheVariants.{Skipped}
 use Rattle.rm_types.specs.Limits.{most_lines}
 use Rattle.rm_script.specs.Limits.{most_bytes}
-use Rattle.rm_script.specs.Lines.{lines_of, ended, size_of_first, is_skipped, kept_lines, IsLineText}
-use Rattle.rm_script.specs.Results.{◌>>=◌, Fails, FindsNone, at_line}
+use Rattle.rm_lines.specs.Lines.{lines_of, ended, size_of_first, is_skipped, kept_lines}
+use Rattle.rm_script.specs.Lines.{IsLineText}
+use Rattle.rm_lines.specs.Results.{◌>>=◌, Fails, FindsNone}
+use Rattle.rm_script.specs.Results.{at_line}
+use Rattle.rm_lines.proofs.Parts.{heads, bound}
 use Rattle.rm_script.specs.Reading.{line_text, with_line, with_each_line, no_lines, script_of_draft, IsLine, IsTextOf, Takes, ReadsLines, AnswersReading}
-use Rattle.rm_script.proofs.Parts.{heads}
-use Rattle.rm_script.proofs.Labels.{bound}
 use Rattle.rm_script.proofs.OneLine.{is_told, text_said, none_said, says}
 use Rattle.rm_script.proofs.Running.{with_lines-append, one_lines}
 

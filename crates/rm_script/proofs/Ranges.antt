@@ -14,8 +14,8 @@ use Rattle.rm_types.specs.declared.texts.TextKind.TheVariants.{Name}
 use Rattle.rm_types.specs.Ranges.{IsText}
 use Rattle.rm_page.specs.Ranges.{IsPageMessage as IsShown, IsPageHeld as IsShownHeld, IsPageAsk as IsShownAsk}
 use Rattle.rm_script.specs.Messages.{IsScriptSubmission, IsScriptMessage}
-use Rattle.rm_types.specs.Messages.{IsHeld, IsAsk}
 use Rattle.rm_script.specs.Laws.{shown_size, shown_held, shown_ask}
+use Rattle.rm_types.specs.Messages.{IsHeld, IsAsk}
 use Rattle.std.proofs.Common.{sym, subst}
 
 framed : (user : List ℕ) (submission : Submission) → IsText Name user → IsScriptSubmission user submission → IsFramed submission
@@ -26,7 +26,6 @@ framed user submission name is = record {
   memory_mb = is.memory;
   vcores = is.vcores;
   attempts = is.attempts;
-  keep = is.keep;
   modify = is.modify;
 }
 

@@ -12,9 +12,9 @@ use Rattle.rm_script.specs.declared.drafts.Draft.{Draft}
 use Rattle.rm_script.specs.Written.{Sent, Delivered, Lost, Crashing, WrittenLife, settled_segment, crash_segments, life_of, script_of_lives}
 use Rattle.rm_script.specs.Spelling.{sent_text, start_text, crash_text, settled_lines, crash_lines, life_lines, script_lines}
 use Rattle.rm_script.specs.Scripts.{IsSent, IsCrash, IsLife, EndsByCrash, IsLineOf, EachButLast, AreLives}
-use Rattle.rm_script.specs.Results.{◌>>=◌}
+use Rattle.rm_lines.specs.Results.{◌>>=◌}
+use Rattle.rm_lines.proofs.Parts.{heads}
 use Rattle.rm_script.specs.Reading.{line_text, with_line, with_each_line, script_of_draft, IsLine}
-use Rattle.rm_script.proofs.Parts.{heads}
 use Rattle.rm_script.proofs.OneLine.{one_line}
 use Rattle.rm_script.proofs.Drafting.{Between, Going, draft_of, crashed_life, delivered_is, lost_is, settled_is, crashed_is}
 

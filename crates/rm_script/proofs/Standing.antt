@@ -15,15 +15,16 @@ use Rattle.rm_types.specs.declared.scripts.Segment.{Segment}
 use Rattle.rm_types.specs.declared.scripts.Script.{Script}
 use Rattle.rm_script.specs.declared.lines.Line.{Line}
 use Rattle.rm_script.specs.declared.drafts.Draft.{Draft}
-use Rattle.rm_script.specs.Lines.{lines_of, ended, is_skipped, kept_lines, IsLineText}
+use Rattle.rm_lines.specs.Lines.{lines_of, ended, is_skipped, kept_lines}
+use Rattle.rm_script.specs.Lines.{IsLineText}
+use Rattle.rm_lines.specs.Results.{◌>>=◌}
+use Rattle.rm_lines.proofs.Parts.{bound, not_chosen}
 use Rattle.rm_script.specs.Written.{Sent, WrittenLife, settled_segment, life_of, script_of_lives}
 use Rattle.rm_script.specs.Spelling.{start_text, life_lines, script_lines}
 use Rattle.rm_script.specs.Scripts.{IsSent, IsLife, EndsByCrash, EachButLast, AreLives, Spell, IsScript}
 use Rattle.rm_script.specs.Refusals.{CanBegin, Stand}
-use Rattle.rm_script.specs.Results.{◌>>=◌}
 use Rattle.rm_types.specs.Limits.{greatest_stamp}
 use Rattle.rm_script.specs.Reading.{told_life, line_text, with_each_line, no_lines, script_of_draft, IsLine, ReadsLines, ReadsAll}
-use Rattle.rm_script.proofs.Labels.{bound, not_chosen}
 use Rattle.rm_script.proofs.Drafting.{Written, Between, Going, living_of, draft_of, written_lines, AreCrashed, Fits, Grown, nothing_sent, settled_text, lines_of-push, with_lines_are}
 use Rattle.rm_script.proofs.Running.{script_marks, texts-lives, marks-lives, with_lines-append, one_lines, script_runs}
 

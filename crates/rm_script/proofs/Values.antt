@@ -11,7 +11,7 @@ use Rattle.rm_types.specs.declared.scripts.Life.{Life}
 use Rattle.rm_types.specs.declared.scripts.Segment.{Segment}
 use Rattle.rm_types.specs.declared.scripts.Script.{Script}
 use Rattle.rm_types.specs.Limits.{most_lines}
-use Rattle.rm_script.specs.Lines.{lines_of, is_skipped, kept_lines}
+use Rattle.rm_lines.specs.Lines.{lines_of, is_skipped, kept_lines}
 use Rattle.rm_script.specs.Written.{Sent, Delivered, Lost, Crashing, WrittenLife, delivered, settled_segment, crash_segments, life_of}
 use Rattle.rm_script.specs.Spelling.{sent_text, start_text, settled_lines, crash_lines, life_lines, script_lines}
 use Rattle.rm_script.specs.Scripts.{IsReadMessage, IsSent, IsCrash, IsLife, EndsByCrash, EachButLast, IsScript}

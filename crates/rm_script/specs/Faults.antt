@@ -8,7 +8,7 @@ use Rattle.rm_script.specs.declared.faults.Limit.TheVariants.{Lines, Bytes, Line
 use Rattle.rm_script.specs.declared.faults.ScriptFault.{ScriptFault}
 use Rattle.rm_script.specs.declared.faults.ScriptFault.TheVariants as faults
 use Rattle.rm_script.specs.Limits.{most_bytes, most_line_bytes}
-use Rattle.rm_script.specs.Lines.{lines_of, size_of_first}
+use Rattle.rm_lines.specs.Lines.{lines_of, size_of_first}
 
 -- the line of this number among those of the bytes, counted from 1
 abbrev pub line_at : ℕ → List ℕ → Option (List ℕ)

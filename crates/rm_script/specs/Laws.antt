@@ -1,5 +1,5 @@
 -- The law that items of lists keep: no comma stands in their texts. The proofs stand here, since the items' own code names them.
-use Rattle.std.proofs.Common.{◌≡◌, ℕ, List, true, refl, arith}
+use Rattle.std.proofs.Common.{refl, arith}
 use Rattle.rm_types.specs.Ranges.{IsContainerId}
 use Rattle.rm_types.specs.Resources.{IsInRange}
 use Rattle.rm_types.specs.declared.containers.Ask.{Ask}
@@ -9,14 +9,10 @@ use Rattle.rm_types.specs.declared.resources.Resource.{Resource}
 use Rattle.rm_formats.specs.IdTexts.{container_text}
 use Rattle.rm_formats.specs.Wording.{held_text, ask_text}
 use Rattle.rm_page.specs.Ranges.{IsPageHeld as IsShownHeld, IsPageAsk as IsShownAsk}
-use Rattle.rm_page.proofs.Bytes.{lacks}
 use Rattle.rm_page.proofs.ReadIds.{container_lacks}
 use Rattle.rm_page.proofs.ReadLists.{held_comes_back, ask_comes_back}
+use Rattle.rm_lines.specs.Cuts.{HasNoComma}
 use Rattle.rm_types.specs.Messages.{IsSize, IsHeld, IsAsk}
-
--- no comma (44) stands in the text
-abbrev pub HasNoComma : List ℕ → Type 0
-HasNoComma text = lacks 44 text ≡ true
 
 -- a size that a line may say may stand on a page
 pub shown_size : (size : Resource) → IsSize size → IsInRange size

@@ -8,7 +8,6 @@ pub mod Refusals
 pub mod Values
 pub mod Faults
 pub mod Results
-pub mod Numbers
-pub mod Words
+pub mod Pieces
 pub mod Laws
 pub mod Reading

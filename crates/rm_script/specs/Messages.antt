@@ -1,5 +1,5 @@
 -- The messages that a line may say: each part is in its range. The ranges are this project's own.
-use Rattle.std.specs.Prelude.{◌≡◌, ℕ, ◌<◌, ◌≤◌, List, length, false}
+use Rattle.std.specs.Prelude.{◌≡◌, ℕ, ◌<◌, List, length}
 use Rattle.rm_types.specs.Ranges.{IsText, IsWithin, IsAppId, IsAttemptId, IsContainerId}
 use Rattle.rm_types.specs.declared.messages.ClientAsk.{ClientAsk}
 use Rattle.rm_types.specs.declared.messages.ClientAsk.TheVariants as clients
@@ -17,7 +17,7 @@ use Rattle.rm_types.specs.Limits.{greatest_attempts, greatest_memory_mb, greates
 use Rattle.rm_script.specs.Limits.{greatest_response, greatest_turn, greatest_tick}
 use Rattle.rm_types.specs.Messages.{IsSize, IsList, IsHeld, IsAsk}
 
--- what the user submits is by that user, and each part of it is in its range; no line asks yet that containers are kept
+-- what the user submits is by that user, and each part of it is in its range
 pub record IsScriptSubmission (user : List ℕ) (submission : Submission) : Type 0 where
   pub by_user : submission.user ≡ user
   pub queue : IsText Queue submission.queue
@@ -25,7 +25,6 @@ pub record IsScriptSubmission (user : List ℕ) (submission : Submission) : Type
   pub memory : IsWithin 1 greatest_memory_mb submission.master.memory_mb
   pub vcores : IsWithin 1 greatest_vcores submission.master.vcores
   pub attempts : IsWithin 0 greatest_attempts submission.attempts
-  pub keep : submission.keep ≡ false
   pub modify : IsText AclText submission.modify
 
 -- how a master says that it ended: in one byte at least

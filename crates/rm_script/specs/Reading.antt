@@ -16,9 +16,11 @@ use Rattle.rm_script.specs.declared.drafts.Draft.{Draft}
 use Rattle.rm_script.specs.declared.drafts.Draft.TheVariants as drafts
 use Rattle.rm_types.specs.Limits.{greatest_stamp, most_lines}
 use Rattle.rm_script.specs.Limits.{most_bytes, greatest_calls, greatest_image}
-use Rattle.rm_script.specs.Lines.{lines_of, size_of_first, is_skipped, kept_lines, IsLineText}
+use Rattle.rm_lines.specs.Lines.{lines_of, size_of_first, is_skipped, kept_lines}
+use Rattle.rm_script.specs.Lines.{IsLineText}
 use Rattle.rm_script.specs.Messages.{IsScriptMessage}
-use Rattle.rm_script.specs.Results.{◌>>=◌}
+use Rattle.rm_lines.specs.Results.{◌>>=◌}
+use Rattle.rm_script.specs.Pieces.{said_pieces}
 
 -- ---- a line by itself
 
@@ -30,6 +32,12 @@ line_words Settle = codes "settle" ∷ []
 line_words (Crash calls image) = codes "crash" ∷ decimal calls ∷ decimal image ∷ []
 line_words (Deliver message) = message_words message
 line_words (Lose message) = codes "lose" ∷ message_words message
+
+-- the pieces of its text: a text in which spaces may stand comes in pieces
+abbrev pub line_pieces : Line → List (List ℕ)
+line_pieces (Deliver message) = said_pieces message
+line_pieces (Lose message) = codes "lose" ∷ said_pieces message
+line_pieces line = line_words line
 
 -- its text
 abbrev pub line_text : Line → List ℕ

@@ -1,7 +1,8 @@
 -- The first line of bytes that is refused, where they are no script.
 use Rattle.std.specs.Prelude.{◌≡◌, ◌⊎◌, ℕ, ◌+◌, ◌<◌, List, ◌++◌, length, take}
 use Rattle.rm_types.specs.declared.scripts.Script.{Script}
-use Rattle.rm_script.specs.Lines.{lines_of, KeepLimits}
+use Rattle.rm_lines.specs.Lines.{lines_of}
+use Rattle.rm_script.specs.Lines.{KeepLimits}
 use Rattle.rm_script.specs.Scripts.{Spell}
 
 -- the lines can begin a script: with some lines after them they spell one

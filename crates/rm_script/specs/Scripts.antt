@@ -1,13 +1,15 @@
 -- Which bytes are which script.
 pub use Rattle.rm_script.specs.Messages.{IsScriptSubmission, IsScriptClientAsk}
+use Rattle.rm_lines.specs.Lines.{lines_of, kept_lines}
+use Rattle.rm_script.specs.Lines.{IsLineText, KeepLimits}
+use Rattle.rm_script.specs.Messages.{IsScriptMessage}
 use Rattle.std.specs.Prelude.{◌≡◌, ℕ, List, [], ◌∷◌, length, IfSome, IsSome, All}
 use Rattle.rm_types.specs.Ranges.{IsWithin}
 use Rattle.rm_types.specs.declared.messages.Message.{Message}
 use Rattle.rm_types.specs.declared.scripts.Script.{Script}
 use Rattle.rm_types.specs.Limits.{greatest_stamp}
 use Rattle.rm_script.specs.Limits.{greatest_calls, greatest_image}
-use Rattle.rm_script.specs.Lines.{lines_of, kept_lines, KeepLimits}
-use Rattle.rm_script.specs.Messages.{IsScriptMessage}
+use Rattle.rm_formats.specs.Wording.{message_text}
 use Rattle.rm_script.specs.Written.{Sent, message_of, Crashing, WrittenLife, script_of_lives}
 use Rattle.rm_script.specs.Spelling.{sent_text, script_lines}
 
@@ -23,6 +25,12 @@ IsSent sent = IsReadMessage (message_of sent)
 pub record IsLineOf (line : List ℕ) (sent : Sent) : Type 0 where
   pub fits : IsSent sent
   pub text : line ≡ sent_text sent
+
+-- the line may stand in a script, and says this message
+pub record IsLineOfMessage (line : List ℕ) (message : Message) : Type 0 where
+  pub limits : IsLineText line
+  pub fits : IsReadMessage message
+  pub text : line ≡ message_text message
 
 -- a crash, and what is sent in the segment that it closes, may stand in a script
 pub record IsCrash (crash : Crashing) : Type 0 where

@@ -1,71 +1,32 @@
-ghost use Rattle.std.specs.Prelude.{◌∷◌, [], map, codes};
-ghost use Rattle.rm_formats.specs.Wording.{clock_words, message_words};
+ghost use Rattle.std.specs.Prelude.{◌∷◌, codes};
+ghost use Rattle.rm_formats.specs.Wording.{clock_words};
+ghost use Rattle.rm_lines.specs.Results.{Finds, IsOf};
 ghost use Rattle.rm_script.specs.Messages.{IsScriptClockAsk, IsScriptMessage};
-ghost use Rattle.rm_script.specs.Results.{Finds, IsOf};
+ghost use Rattle.rm_script.specs.Pieces.{said_pieces};
 
-use crate::errors::LineError;
-use crate::faults::{LineFault, Part};
-use crate::fields::{attempt_id, text};
 use crate::limits::GREATEST_TICK;
-use crate::numbers::long_number;
+use rm_lines::{LineError, LineFault, Part, Words, attempt_id, long_number, text};
 use rm_types::{ClockAsk, Message, TextKind};
 use std::alloc::Global;
 
-/// So many milliseconds go by, by the words after `tick`.
-fn tick(words: &[&[u8]]) -> Result<ClockAsk, LineError>
-    ensures { Finds result (IsOf clock_words IsScriptClockAsk (codes "tick" ∷ map (λ word. word.now) words.now)) }
+/// The message of the clock, by the words after `clock`.
+pub(crate) fn clock_message(alloc: Global, words: Words<'_>) -> Result<Message, LineError>
+    ensures { Finds result (IsOf said_pieces IsScriptMessage (codes "clock" ∷ words.entry)) }
 {
-    match words {
-        [] => Err(LineError::Refused(LineFault::Form)),
-        [time] => tick_of(time),
-        _ => Err(LineError::Refused(LineFault::Form)),
-    }
+    Ok(Message::Clock(clock_ask(alloc, words)?))
 }
 
-/// The same by their number.
-fn tick_of(time: &[u8]) -> Result<ClockAsk, LineError>
-    ensures { Finds result (IsOf clock_words IsScriptClockAsk (codes "tick" ∷ time.now ∷ [])) }
+/// What the clock says.
+fn clock_ask(alloc: Global, mut words: Words<'_>) -> Result<ClockAsk, LineError>
+    ensures { Finds result (IsOf clock_words IsScriptClockAsk words.entry) }
 {
-    Ok(ClockAsk::Tick(long_number(time, Part::Time, 1, GREATEST_TICK)?))
+    let verb = words.word()?;
+    ask_by(alloc, verb, words)
 }
 
-/// A lease runs out, by the words after `expire`.
-fn expiry(alloc: Global, words: &[&[u8]]) -> Result<ClockAsk, LineError>
-    ensures { Finds result (IsOf clock_words IsScriptClockAsk (codes "expire" ∷ map (λ word. word.now) words.now)) }
-{
-    match words {
-        [] => Err(LineError::Refused(LineFault::Form)),
-        [whose, more @ ..] => lease(alloc, whose, more),
-    }
-}
-
-/// The lease of a node or a master runs out, by the words after that.
-fn lease(alloc: Global, whose: &[u8], words: &[&[u8]]) -> Result<ClockAsk, LineError>
-    ensures { Finds result (IsOf clock_words IsScriptClockAsk (codes "expire" ∷ whose.now ∷ map (λ word. word.now) words.now)) }
-{
-    match words {
-        [] => Err(LineError::Refused(LineFault::Form)),
-        [name] => lease_of(alloc, whose, name),
-        _ => Err(LineError::Refused(LineFault::Form)),
-    }
-}
-
-/// The same by the node's name or the attempt.
-fn lease_of(alloc: Global, whose: &[u8], name: &[u8]) -> Result<ClockAsk, LineError>
-    ensures { Finds result (IsOf clock_words IsScriptClockAsk (codes "expire" ∷ whose.now ∷ name.now ∷ [])) }
-{
-    if whose == "node".as_bytes() {
-        Ok(ClockAsk::ExpireNode(text(alloc, name, Part::Node, TextKind::Node)?))
-    } else if whose == "master".as_bytes() {
-        Ok(ClockAsk::ExpireMaster(attempt_id(name)?))
-    } else {
-        Err(LineError::Refused(LineFault::Form))
-    }
-}
-
-/// What the clock says, by the word that says it and the words after that.
-fn clock_ask(alloc: Global, verb: &[u8], words: &[&[u8]]) -> Result<ClockAsk, LineError>
-    ensures { Finds result (IsOf clock_words IsScriptClockAsk (verb.now ∷ map (λ word. word.now) words.now)) }
+/// The same by the word that says it and the words after that.
+fn ask_by(alloc: Global, verb: &[u8], words: Words<'_>) -> Result<ClockAsk, LineError>
+    ensures { Finds result (IsOf clock_words IsScriptClockAsk (verb.now ∷ words.entry)) }
 {
     if verb == "tick".as_bytes() {
         tick(words)
@@ -76,19 +37,48 @@ fn clock_ask(alloc: Global, verb: &[u8], words: &[&[u8]]) -> Result<ClockAsk, Li
     }
 }
 
-/// The message of the clock, by the word that says it and the words after that.
-fn message_of(alloc: Global, verb: &[u8], words: &[&[u8]]) -> Result<Message, LineError>
-    ensures { Finds result (IsOf message_words IsScriptMessage (codes "clock" ∷ verb.now ∷ map (λ word. word.now) words.now)) }
+/// So many milliseconds go by.
+fn tick(mut words: Words<'_>) -> Result<ClockAsk, LineError>
+    ensures { Finds result (IsOf clock_words IsScriptClockAsk (codes "tick" ∷ words.entry)) }
 {
-    Ok(Message::Clock(clock_ask(alloc, verb, words)?))
+    let time = long_number(words.word()?, Part::Time, 1, GREATEST_TICK)?;
+    words.end()?;
+    Ok(ClockAsk::Tick(time))
 }
 
-/// The message of the clock, by the words after `clock`.
-pub(crate) fn clock_message(alloc: Global, words: &[&[u8]]) -> Result<Message, LineError>
-    ensures { Finds result (IsOf message_words IsScriptMessage (codes "clock" ∷ map (λ word. word.now) words.now)) }
+/// A lease runs out.
+fn expiry(alloc: Global, mut words: Words<'_>) -> Result<ClockAsk, LineError>
+    ensures { Finds result (IsOf clock_words IsScriptClockAsk (codes "expire" ∷ words.entry)) }
 {
-    match words {
-        [] => Err(LineError::Refused(LineFault::Form)),
-        [verb, more @ ..] => message_of(alloc, verb, more),
+    let whose = words.word()?;
+    lease(alloc, whose, words)
+}
+
+/// The lease of a node or a master runs out, by the words after that.
+fn lease(alloc: Global, whose: &[u8], words: Words<'_>) -> Result<ClockAsk, LineError>
+    ensures { Finds result (IsOf clock_words IsScriptClockAsk (codes "expire" ∷ whose.now ∷ words.entry)) }
+{
+    if whose == "node".as_bytes() {
+        node_lease(alloc, words)
+    } else if whose == "master".as_bytes() {
+        master_lease(words)
+    } else {
+        Err(LineError::Refused(LineFault::Form))
     }
+}
+
+fn node_lease(alloc: Global, mut words: Words<'_>) -> Result<ClockAsk, LineError>
+    ensures { Finds result (IsOf clock_words IsScriptClockAsk (codes "expire" ∷ codes "node" ∷ words.entry)) }
+{
+    let node = text(alloc, words.word()?, Part::Node, TextKind::Node)?;
+    words.end()?;
+    Ok(ClockAsk::ExpireNode(node))
+}
+
+fn master_lease(mut words: Words<'_>) -> Result<ClockAsk, LineError>
+    ensures { Finds result (IsOf clock_words IsScriptClockAsk (codes "expire" ∷ codes "master" ∷ words.entry)) }
+{
+    let attempt = attempt_id(words.word()?)?;
+    words.end()?;
+    Ok(ClockAsk::ExpireMaster(attempt))
 }

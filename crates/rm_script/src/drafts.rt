@@ -1,10 +1,9 @@
 ghost use Rattle.std.specs.Prelude.{◌≡◌, Some};
-ghost use Rattle.rm_script.specs.Results.{Finds, Gives};
+ghost use Rattle.rm_lines.specs.Results.{Finds, Gives};
 ghost use Rattle.rm_script.specs.Reading.{settled, with_start, with_settle, crashed, with_crash, with_message, with_loss, with_line, script_of_draft, Takes};
 
-use crate::errors::LineError;
-use crate::faults::LineFault;
 use crate::lines::{Line, line_of};
+use rm_lines::{LineError, LineFault};
 use rm_types::{Close, Items, Life, Message, Script, Segment};
 use std::alloc::Global;
 

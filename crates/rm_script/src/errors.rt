@@ -1,10 +1,7 @@
 ghost use Rattle.std.specs.Prelude.{◌≡◌};
-ghost use Rattle.rm_script.specs.declared.errors.LineError.TheVariants.{Memory};
 ghost use Rattle.rm_script.specs.Results.{at_line};
 
-use crate::faults::LineFault;
-use rm_types::NoMemory;
-use std::alloc::{AllocError, AllocFailed};
+use rm_lines::LineError;
 use thiserror::Error;
 
 /// Why a script wasn't read.
@@ -19,49 +16,14 @@ pub enum ScriptError {
     Memory,
 }
 
-/// Why a line wasn't read, or a part of one.
-#[derive(Clone, Copy, Debug, Error)]
-pub enum LineError {
-    /// It is no such line, or may not stand there.
-    #[error("the line is refused: {0}")]
-    Refused(LineFault),
-    /// No memory was found.
-    #[error("out of memory")]
-    Memory,
-}
-
-impl LineError {
-    /// The same of the script whose line this is.
-    pub(crate) fn at(self, line: u32) -> ScriptError
-        ensures { result ≡ at_line self line }
+impl ScriptError {
+    /// The error of the script whose line was read with this one.
+    pub(crate) fn at(error: LineError, line: u32) -> ScriptError
+        ensures { result ≡ at_line error line }
     {
-        match self {
+        match error {
             LineError::Refused(_) => ScriptError::Refused { line },
             LineError::Memory => ScriptError::Memory,
         }
-    }
-}
-
-impl From<NoMemory> for LineError {
-    ghost from_gives = { λ _ error. error ≡ Memory };
-
-    fn from(_error: NoMemory) -> LineError {
-        LineError::Memory
-    }
-}
-
-impl From<AllocError> for LineError {
-    ghost from_gives = { λ _ error. error ≡ Memory };
-
-    fn from(_error: AllocError) -> LineError {
-        LineError::Memory
-    }
-}
-
-impl<T: Drop> From<AllocFailed<T>> for LineError {
-    ghost from_gives = { λ _ error. error ≡ Memory };
-
-    fn from(_failed: AllocFailed<T>) -> LineError {
-        LineError::Memory
     }
 }

@@ -1,6 +1,6 @@
 ghost use Rattle.std.specs.Prelude.{◌≡◌, ℕ, List};
 ghost use Rattle.rm_types.specs.declared.scripts.Script.{Script};
-ghost use Rattle.rm_script.specs.Lines.{lines_of, AreLinesOf};
+ghost use Rattle.rm_lines.specs.Lines.{lines_of, AreLinesOf};
 ghost use Rattle.rm_script.specs.Written.{Sent};
 ghost use Rattle.rm_script.specs.Scripts.{IsLineOf, IsScript};
 ghost use Rattle.rm_script.specs.Values.{IsToldScript};

@@ -1,37 +1,27 @@
-ghost use Rattle.std.specs.Prelude.{◌≡◌, ◌<◌, ℕ, List, [], ◌∷◌, ◌++◌, map, length, true, None};
+ghost use Rattle.std.specs.Prelude.{◌≡◌, ℕ, List, [], ◌∷◌, ◌++◌, map, None};
 ghost use Rattle.rm_types.specs.Ranges.{IsContainerId};
+ghost use Rattle.rm_types.specs.Messages.{IsList, IsHeld, IsAsk};
 ghost use Rattle.rm_formats.specs.IdTexts.{container_text};
 ghost use Rattle.rm_formats.specs.Wording.{listed, list_word, held_text, ask_text};
-ghost use Rattle.rm_types.specs.Messages.{IsList, IsHeld, IsAsk};
-ghost use Rattle.rm_script.specs.Results.{Finds, IsOf};
-ghost use Rattle.rm_script.specs.Words.{after_label, held_parts, ask_parts, IsSomeList};
-ghost use Rattle.rm_script.specs.Laws.{HasNoComma, container_lacks_comma, held_lacks_comma, ask_lacks_comma};
+ghost use Rattle.rm_lines.specs.Cuts.{after_label};
+ghost use Rattle.rm_lines.specs.Results.{Finds, IsOf};
+ghost use Rattle.rm_script.specs.Pieces.{held_parts, ask_parts, IsSomeList};
+ghost use Rattle.rm_script.specs.Laws.{container_lacks_comma, held_lacks_comma, ask_lacks_comma};
 
-use crate::errors::LineError;
-use crate::faults::{LineFault, Part};
-use crate::fields::{container_id, size};
-use crate::numbers::number;
-use crate::words::{after_label, pieces};
-use rm_types::{Ask, ContainerId, GREATEST_COUNT, GREATEST_PRIORITY, Held, Items, MOST_LISTED};
+use rm_lines::{LineError, LineFault, Part, Reading, Words, container_id, number, pieces};
+use rm_types::{
+    Ask, ContainerId, GREATEST_COUNT, GREATEST_MEMORY_MB, GREATEST_PRIORITY, GREATEST_VCORES, Held,
+    Items, MOST_LISTED, Resource,
+};
 use std::alloc::Global;
 
-/// What may stand in a list, with a comma between each two.
-pub(crate) trait Listed: Sized {
-    ghost text: { Self → List ℕ };
+/// An item as a line of a script says it.
+pub(crate) enum Said {}
 
-    ghost fits: { Self → Type 0 };
-
-    /// The item whose text the word is.
-    fn read(alloc: Global, word: &[u8]) -> Result<Self, LineError>
-        ensures { Finds result (IsOf text fits word.now) };
-
-    ghost no_comma: { (item : Self) → fits item → HasNoComma (text item) };
-}
-
-impl Listed for ContainerId {
+impl Reading<ContainerId> for Said {
     ghost text = { container_text };
 
-    ghost fits = { IsContainerId };
+    ghost is = { IsContainerId };
 
     ghost no_comma = { container_lacks_comma };
 
@@ -40,10 +30,10 @@ impl Listed for ContainerId {
     }
 }
 
-impl Listed for Held {
+impl Reading<Held> for Said {
     ghost text = { held_text };
 
-    ghost fits = { IsHeld };
+    ghost is = { IsHeld };
 
     ghost no_comma = { held_lacks_comma };
 
@@ -53,10 +43,10 @@ impl Listed for Held {
     }
 }
 
-impl Listed for Ask {
+impl Reading<Ask> for Said {
     ghost text = { ask_text };
 
-    ghost fits = { IsAsk };
+    ghost is = { IsAsk };
 
     ghost no_comma = { ask_lacks_comma };
 
@@ -81,8 +71,12 @@ fn held_with(id: &[u8], memory: &[u8], vcores: &[u8]) -> Result<Held, LineError>
     ensures { Finds result (IsOf held_parts IsHeld (id.now ∷ memory.now ∷ vcores.now ∷ [])) }
 {
     let id = container_id(id)?;
-    let size = size(memory, vcores)?;
-    Ok(Held { id, size })
+    let memory_mb = number(memory, Part::Memory, 1, GREATEST_MEMORY_MB)?;
+    let vcores = number(vcores, Part::Cores, 1, GREATEST_VCORES)?;
+    Ok(Held {
+        id,
+        size: Resource { memory_mb, vcores },
+    })
 }
 
 /// An ask, by the parts of its text.
@@ -101,94 +95,64 @@ fn ask_with(priority: &[u8], count: &[u8], memory: &[u8], vcores: &[u8]) -> Resu
 {
     let priority = number(priority, Part::Priority, 1, GREATEST_PRIORITY)?;
     let count = number(count, Part::Count, 0, GREATEST_COUNT)?;
-    let size = size(memory, vcores)?;
+    let memory_mb = number(memory, Part::Memory, 1, GREATEST_MEMORY_MB)?;
+    let vcores = number(vcores, Part::Cores, 1, GREATEST_VCORES)?;
     Ok(Ask {
         priority,
         count,
-        size,
+        size: Resource { memory_mb, vcores },
     })
 }
 
-/// The items of a list, by its text.
-fn items_of<T: Listed + Drop>(alloc: Global, text: &[u8]) -> Result<Items<T>, LineError>
-    ensures { Finds result (IsOf (λ items. listed (map T.text items)) (IsSomeList T.fits) text.now) }
+/// The items of a list that has some, by its text.
+fn items_of<R: Reading<T>, T: Drop>(alloc: Global, text: &[u8]) -> Result<Items<T>, LineError>
+    ensures { Finds result (IsOf (λ items. listed (map R.text items)) (IsSomeList R.is) text.now) }
 {
-    let words = pieces(alloc, text, b',')?;
-    if words.len() > MOST_LISTED {
-        return Err(LineError::Refused(LineFault::Items { count: words.len() }));
+    let pieces = pieces(alloc, text, b',')?;
+    if pieces.len() > MOST_LISTED {
+        return Err(LineError::Refused(LineFault::Items {
+            count: pieces.len(),
+        }));
     }
-    let mut items = Items::new(alloc);
-    'words: for word in &words {
-        items.push(T::read(alloc, word)?)?;
+    rm_lines::items_of::<R, T>(alloc, pieces.as_slice())
+}
+
+/// The items of a list that may be left out, by its label and the words that are left.
+pub(crate) fn one_list<R: Reading<T>, T: Drop>(
+    alloc: Global,
+    mut words: Words<'_>,
+    label: &[u8],
+) -> Result<Items<T>, LineError>
+    ensures { Finds result (IsOf (λ items. list_word label.now (map R.text items)) (IsList R.is) words.entry) }
+{
+    if words.is_empty() {
+        return Ok(Items::new(alloc));
     }
+    let items = items_of::<R, T>(alloc, words.field(label)?)?;
+    words.end()?;
     Ok(items)
 }
 
-/// The items of a list after a label.
-fn list_field<T: Listed + Drop>(
+/// The items of two lists, either of which may be left out, by their labels and the words that are left. No word begins with
+/// both labels.
+pub(crate) fn two_lists<R: Reading<A>, S: Reading<B>, A: Drop, B: Drop>(
     alloc: Global,
-    word: &[u8],
-    label: &str,
-) -> Result<Items<T>, LineError>
-    ensures { Finds result (IsOf (λ items. label.now ++ listed (map T.text items)) (IsSomeList T.fits) word.now) }
-{
-    match after_label(word, label) {
-        Some(text) => items_of(alloc, text),
-        None => Err(LineError::Refused(LineFault::Form)),
-    }
-}
-
-/// The items of a list that may be left out, by its label and the words that may say it.
-pub(crate) fn one_list<T: Listed + Drop>(
-    alloc: Global,
-    words: &[&[u8]],
-    label: &str,
-) -> Result<Items<T>, LineError>
-    ensures { Finds result (IsOf (λ items. list_word label.now (map T.text items)) (IsList T.fits) (map (λ word. word.now) words.now)) }
-{
-    match words {
-        [] => Ok(Items::new(alloc)),
-        [word] => list_field(alloc, word, label),
-        _ => Err(LineError::Refused(LineFault::Form)),
-    }
-}
-
-/// The items of two lists of which one is left out, by the word of the other. No word begins with both
-/// labels.
-fn either_list<A: Listed + Drop, B: Listed + Drop>(
-    alloc: Global,
-    word: &[u8],
-    first: &str,
-    second: &str,
+    mut words: Words<'_>,
+    first: &[u8],
+    second: &[u8],
 ) -> Result<(Items<A>, Items<B>), LineError>
     requires { (text : List ℕ) → after_label first.now (second.now ++ text) ≡ None }
-    ensures { Finds result (IsOf (λ lists. list_word first.now (map A.text lists.0) ++ list_word second.now (map B.text lists.1)) (λ lists. IsList A.fits lists.0 × IsList B.fits lists.1) (word.now ∷ [])) }
+    ensures { Finds result (IsOf (λ lists. list_word first.now (map R.text lists.0) ++ list_word second.now (map S.text lists.1)) (λ lists. IsList R.is lists.0 × IsList S.is lists.1) words.entry) }
 {
-    match after_label(word, first) {
-        Some(text) => Ok((items_of(alloc, text)?, Items::new(alloc))),
-        None => Ok((Items::new(alloc), list_field(alloc, word, second)?)),
-    }
-}
-
-/// The items of two lists, either of which may be left out, by their labels and the words that may say
-/// them. No word begins with both labels.
-pub(crate) fn two_lists<A: Listed + Drop, B: Listed + Drop>(
-    alloc: Global,
-    words: &[&[u8]],
-    first: &str,
-    second: &str,
-) -> Result<(Items<A>, Items<B>), LineError>
-    requires { (text : List ℕ) → after_label first.now (second.now ++ text) ≡ None }
-    ensures { Finds result (IsOf (λ lists. list_word first.now (map A.text lists.0) ++ list_word second.now (map B.text lists.1)) (λ lists. IsList A.fits lists.0 × IsList B.fits lists.1) (map (λ word. word.now) words.now)) }
-{
-    match words {
-        [] => Ok((Items::new(alloc), Items::new(alloc))),
-        [word] => either_list(alloc, word, first, second),
-        [one, other] => {
-            let one = list_field(alloc, one, first)?;
-            let other = list_field(alloc, other, second)?;
+    match words.optional_field(first) {
+        Some(text) => {
+            let one = items_of::<R, A>(alloc, text)?;
+            let other = one_list::<S, B>(alloc, words, second)?;
             Ok((one, other))
         }
-        _ => Err(LineError::Refused(LineFault::Form)),
+        None => {
+            let other = one_list::<S, B>(alloc, words, second)?;
+            Ok((Items::new(alloc), other))
+        }
     }
 }

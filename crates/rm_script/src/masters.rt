@@ -1,75 +1,34 @@
-ghost use Rattle.std.specs.Prelude.{◌∷◌, [], map, codes};
-ghost use Rattle.rm_formats.specs.Wording.{master_words, message_words};
+ghost use Rattle.std.specs.Prelude.{◌∷◌, codes};
+ghost use Rattle.rm_lines.specs.Results.{Finds, IsOf};
 ghost use Rattle.rm_script.specs.Messages.{IsScriptMasterAsk, IsScriptMessage};
-ghost use Rattle.rm_script.specs.Results.{Finds, IsOf};
+ghost use Rattle.rm_script.specs.Pieces.{master_pieces, said_pieces};
 
-use crate::errors::LineError;
-use crate::faults::{Excerpt, LineFault, Part};
-use crate::fields::{attempt_id, text};
 use crate::limits::GREATEST_RESPONSE;
-use crate::lists::two_lists;
-use crate::numbers::number;
-use rm_types::{MasterAsk, Message, TextKind};
+use crate::lists::{Said, two_lists};
+use rm_lines::{Excerpt, LineError, LineFault, Part, Words, attempt_id, number};
+use rm_types::{Ask, ContainerId, MasterAsk, Message, TextKind};
 use std::alloc::Global;
 
-/// What a master asks that registers, by the words after `register`: there are none.
-fn register_ask(words: &[&[u8]]) -> Result<MasterAsk, LineError>
-    ensures { Finds result (IsOf master_words IsScriptMasterAsk (codes "register" ∷ map (λ word. word.now) words.now)) }
+/// The message of a master, by the words after `master`.
+pub(crate) fn master_message(alloc: Global, mut words: Words<'_>) -> Result<Message, LineError>
+    ensures { Finds result (IsOf said_pieces IsScriptMessage (codes "master" ∷ words.entry)) }
 {
-    match words {
-        [] => Ok(MasterAsk::Register),
-        _ => Err(LineError::Refused(LineFault::Form)),
-    }
+    let attempt = attempt_id(words.word()?)?;
+    let ask = master_ask(alloc, words)?;
+    Ok(Message::Master(attempt, ask))
 }
 
-/// What a master asks that ends, by what it says: one byte at least.
-fn last_word(alloc: Global, note: &[u8]) -> Result<MasterAsk, LineError>
-    ensures { Finds result (IsOf master_words IsScriptMasterAsk (codes "finish" ∷ note.now ∷ [])) }
+/// What a master asks.
+fn master_ask(alloc: Global, mut words: Words<'_>) -> Result<MasterAsk, LineError>
+    ensures { Finds result (IsOf master_pieces IsScriptMasterAsk words.entry) }
 {
-    if note.is_empty() {
-        return Err(LineError::Refused(LineFault::Text {
-            part: Part::Note,
-            kind: TextKind::Note,
-            found: Excerpt::of(note),
-        }));
-    }
-    let text = text(alloc, note, Part::Note, TextKind::Note)?;
-    Ok(MasterAsk::Finish { text })
+    let verb = words.word()?;
+    ask_by(alloc, verb, words)
 }
 
-/// What a master asks that ends, by the words after `finish`.
-fn finish_ask(alloc: Global, words: &[&[u8]]) -> Result<MasterAsk, LineError>
-    ensures { Finds result (IsOf master_words IsScriptMasterAsk (codes "finish" ∷ map (λ word. word.now) words.now)) }
-{
-    match words {
-        [] => Err(LineError::Refused(LineFault::Form)),
-        [note] => last_word(alloc, note),
-        _ => Err(LineError::Refused(LineFault::Form)),
-    }
-}
-
-/// What a master asks for and releases.
-fn allocation(alloc: Global, id: &[u8], lists: &[&[u8]]) -> Result<MasterAsk, LineError>
-    ensures { Finds result (IsOf master_words IsScriptMasterAsk (codes "allocate" ∷ id.now ∷ map (λ word. word.now) lists.now)) }
-{
-    let id = number(id, Part::Response, 0, GREATEST_RESPONSE)?;
-    let (asks, release) = two_lists(alloc, lists, "ask=", "release=")?;
-    Ok(MasterAsk::Allocate { id, asks, release })
-}
-
-/// What a master asks for and releases, by the words after `allocate`.
-fn allocate_ask(alloc: Global, words: &[&[u8]]) -> Result<MasterAsk, LineError>
-    ensures { Finds result (IsOf master_words IsScriptMasterAsk (codes "allocate" ∷ map (λ word. word.now) words.now)) }
-{
-    match words {
-        [id, lists @ ..] => allocation(alloc, id, lists),
-        [] => Err(LineError::Refused(LineFault::Form)),
-    }
-}
-
-/// What a master asks, by the word that says it and the words after that.
-fn master_ask(alloc: Global, verb: &[u8], words: &[&[u8]]) -> Result<MasterAsk, LineError>
-    ensures { Finds result (IsOf master_words IsScriptMasterAsk (verb.now ∷ map (λ word. word.now) words.now)) }
+/// The same by the word that says it and the words after that.
+fn ask_by(alloc: Global, verb: &[u8], words: Words<'_>) -> Result<MasterAsk, LineError>
+    ensures { Finds result (IsOf master_pieces IsScriptMasterAsk (verb.now ∷ words.entry)) }
 {
     if verb == "register".as_bytes() {
         register_ask(words)
@@ -82,26 +41,38 @@ fn master_ask(alloc: Global, verb: &[u8], words: &[&[u8]]) -> Result<MasterAsk, 
     }
 }
 
-/// The message of a master, by its attempt and the words that say what it asks.
-fn message_of(
-    alloc: Global,
-    attempt: &[u8],
-    verb: &[u8],
-    words: &[&[u8]],
-) -> Result<Message, LineError>
-    ensures { Finds result (IsOf message_words IsScriptMessage (codes "master" ∷ attempt.now ∷ verb.now ∷ map (λ word. word.now) words.now)) }
+fn register_ask(words: Words<'_>) -> Result<MasterAsk, LineError>
+    ensures { Finds result (IsOf master_pieces IsScriptMasterAsk (codes "register" ∷ words.entry)) }
 {
-    let attempt = attempt_id(attempt)?;
-    let ask = master_ask(alloc, verb, words)?;
-    Ok(Message::Master(attempt, ask))
+    words.end()?;
+    Ok(MasterAsk::Register)
 }
 
-/// The message of a master, by the words after `master`.
-pub(crate) fn master_message(alloc: Global, words: &[&[u8]]) -> Result<Message, LineError>
-    ensures { Finds result (IsOf message_words IsScriptMessage (codes "master" ∷ map (λ word. word.now) words.now)) }
+/// What a master asks for and releases.
+fn allocate_ask(alloc: Global, mut words: Words<'_>) -> Result<MasterAsk, LineError>
+    ensures { Finds result (IsOf master_pieces IsScriptMasterAsk (codes "allocate" ∷ words.entry)) }
 {
-    match words {
-        [attempt, verb, more @ ..] => message_of(alloc, attempt, verb, more),
-        _ => Err(LineError::Refused(LineFault::Form)),
+    let id = number(words.word()?, Part::Response, 0, GREATEST_RESPONSE)?;
+    let (asks, release) = two_lists::<Said, Said, Ask, ContainerId>(
+        alloc,
+        words,
+        b"ask=",
+        b"release=",
+    )?;
+    Ok(MasterAsk::Allocate { id, asks, release })
+}
+
+/// What a master asks that ends: it says one byte at least.
+fn finish_ask(alloc: Global, mut words: Words<'_>) -> Result<MasterAsk, LineError>
+    ensures { Finds result (IsOf master_pieces IsScriptMasterAsk (codes "finish" ∷ words.entry)) }
+{
+    let text = words.last_text(alloc, b"", Part::Note, TextKind::Note)?;
+    if text.bytes().is_empty() {
+        return Err(LineError::Refused(LineFault::Text {
+            part: Part::Note,
+            kind: TextKind::Note,
+            found: Excerpt::of(b""),
+        }));
     }
+    Ok(MasterAsk::Finish { text })
 }

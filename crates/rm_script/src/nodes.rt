@@ -1,69 +1,37 @@
-ghost use Rattle.std.specs.Prelude.{◌∷◌, map, codes};
-ghost use Rattle.rm_formats.specs.Wording.{node_words, message_words};
+ghost use Rattle.std.specs.Prelude.{◌∷◌, codes};
+ghost use Rattle.rm_formats.specs.Wording.{node_words};
+ghost use Rattle.rm_lines.specs.Results.{Finds, IsOf};
 ghost use Rattle.rm_script.specs.Messages.{IsScriptNodeAsk, IsScriptMessage};
-ghost use Rattle.rm_script.specs.Results.{Finds, IsOf};
+ghost use Rattle.rm_script.specs.Pieces.{said_pieces};
 
-use crate::errors::LineError;
-use crate::faults::{LineFault, Part};
-use crate::fields::{size_fields, text};
 use crate::limits::{GREATEST_RESPONSE, GREATEST_TURN};
-use crate::lists::{one_list, two_lists};
-use crate::numbers::number;
-use rm_types::{Message, NodeAsk, TextKind};
+use crate::lists::{Said, one_list, two_lists};
+use rm_lines::{LineError, LineFault, Part, Words, number, text};
+use rm_types::{
+    ContainerId, GREATEST_MEMORY_MB, GREATEST_VCORES, Held, Message, NodeAsk, Resource, TextKind,
+};
 use std::alloc::Global;
 
-/// What a node says that registers, by its turn, its capability and the words that may say what runs on it.
-fn registration(
-    alloc: Global,
-    turn: &[u8],
-    memory: &[u8],
-    vcores: &[u8],
-    lists: &[&[u8]],
-) -> Result<NodeAsk, LineError>
-    ensures { Finds result (IsOf node_words IsScriptNodeAsk (codes "register" ∷ turn.now ∷ memory.now ∷ vcores.now ∷ map (λ word. word.now) lists.now)) }
+/// The message of a node, by the words after `node`.
+pub(crate) fn node_message(alloc: Global, mut words: Words<'_>) -> Result<Message, LineError>
+    ensures { Finds result (IsOf said_pieces IsScriptMessage (codes "node" ∷ words.entry)) }
 {
-    let turn = number(turn, Part::Turn, 1, GREATEST_TURN)?;
-    let capability = size_fields(memory, vcores)?;
-    let running = one_list(alloc, lists, "running=")?;
-    Ok(NodeAsk::Register {
-        turn,
-        capability,
-        running,
-    })
+    let node = text(alloc, words.word()?, Part::Node, TextKind::Node)?;
+    let ask = node_ask(alloc, words)?;
+    Ok(Message::Node(node, ask))
 }
 
-/// What a node says that registers, by the words after `register`.
-fn register_ask(alloc: Global, words: &[&[u8]]) -> Result<NodeAsk, LineError>
-    ensures { Finds result (IsOf node_words IsScriptNodeAsk (codes "register" ∷ map (λ word. word.now) words.now)) }
+/// What a node says.
+fn node_ask(alloc: Global, mut words: Words<'_>) -> Result<NodeAsk, LineError>
+    ensures { Finds result (IsOf node_words IsScriptNodeAsk words.entry) }
 {
-    match words {
-        [turn, memory, vcores, lists @ ..] => registration(alloc, turn, memory, vcores, lists),
-        _ => Err(LineError::Refused(LineFault::Form)),
-    }
+    let verb = words.word()?;
+    ask_by(alloc, verb, words)
 }
 
-/// What a node says in a beat, by its id and the words that may say what runs on it and what is done.
-fn beat(alloc: Global, id: &[u8], lists: &[&[u8]]) -> Result<NodeAsk, LineError>
-    ensures { Finds result (IsOf node_words IsScriptNodeAsk (codes "beat" ∷ id.now ∷ map (λ word. word.now) lists.now)) }
-{
-    let id = number(id, Part::Response, 0, GREATEST_RESPONSE)?;
-    let (running, done) = two_lists(alloc, lists, "running=", "done=")?;
-    Ok(NodeAsk::Beat { id, running, done })
-}
-
-/// What a node says in a beat, by the words after `beat`.
-fn beat_ask(alloc: Global, words: &[&[u8]]) -> Result<NodeAsk, LineError>
-    ensures { Finds result (IsOf node_words IsScriptNodeAsk (codes "beat" ∷ map (λ word. word.now) words.now)) }
-{
-    match words {
-        [id, lists @ ..] => beat(alloc, id, lists),
-        [] => Err(LineError::Refused(LineFault::Form)),
-    }
-}
-
-/// What a node says, by the word that says it and the words after that.
-fn node_ask(alloc: Global, verb: &[u8], words: &[&[u8]]) -> Result<NodeAsk, LineError>
-    ensures { Finds result (IsOf node_words IsScriptNodeAsk (verb.now ∷ map (λ word. word.now) words.now)) }
+/// The same by the word that says it and the words after that.
+fn ask_by(alloc: Global, verb: &[u8], words: Words<'_>) -> Result<NodeAsk, LineError>
+    ensures { Finds result (IsOf node_words IsScriptNodeAsk (verb.now ∷ words.entry)) }
 {
     if verb == "register".as_bytes() {
         register_ask(alloc, words)
@@ -74,26 +42,36 @@ fn node_ask(alloc: Global, verb: &[u8], words: &[&[u8]]) -> Result<NodeAsk, Line
     }
 }
 
-/// The message of a node, by its name and the words that tell what it says.
-fn message_of(
-    alloc: Global,
-    node: &[u8],
-    verb: &[u8],
-    words: &[&[u8]],
-) -> Result<Message, LineError>
-    ensures { Finds result (IsOf message_words IsScriptMessage (codes "node" ∷ node.now ∷ verb.now ∷ map (λ word. word.now) words.now)) }
+/// What a node says that registers: its turn, its capability and what runs on it.
+fn register_ask(alloc: Global, mut words: Words<'_>) -> Result<NodeAsk, LineError>
+    ensures { Finds result (IsOf node_words IsScriptNodeAsk (codes "register" ∷ words.entry)) }
 {
-    let node = text(alloc, node, Part::Node, TextKind::Node)?;
-    let ask = node_ask(alloc, verb, words)?;
-    Ok(Message::Node(node, ask))
+    let turn = number(words.word()?, Part::Turn, 1, GREATEST_TURN)?;
+    let memory_mb = number(
+        words.field(b"memory=")?,
+        Part::Memory,
+        1,
+        GREATEST_MEMORY_MB,
+    )?;
+    let vcores = number(words.field(b"vcores=")?, Part::Cores, 1, GREATEST_VCORES)?;
+    let running = one_list::<Said, Held>(alloc, words, b"running=")?;
+    Ok(NodeAsk::Register {
+        turn,
+        capability: Resource { memory_mb, vcores },
+        running,
+    })
 }
 
-/// The message of a node, by the words after `node`.
-pub(crate) fn node_message(alloc: Global, words: &[&[u8]]) -> Result<Message, LineError>
-    ensures { Finds result (IsOf message_words IsScriptMessage (codes "node" ∷ map (λ word. word.now) words.now)) }
+/// What a node says in a beat: its id, what runs on it and what is done.
+fn beat_ask(alloc: Global, mut words: Words<'_>) -> Result<NodeAsk, LineError>
+    ensures { Finds result (IsOf node_words IsScriptNodeAsk (codes "beat" ∷ words.entry)) }
 {
-    match words {
-        [node, verb, more @ ..] => message_of(alloc, node, verb, more),
-        _ => Err(LineError::Refused(LineFault::Form)),
-    }
+    let id = number(words.word()?, Part::Response, 0, GREATEST_RESPONSE)?;
+    let (running, done) = two_lists::<Said, Said, Held, ContainerId>(
+        alloc,
+        words,
+        b"running=",
+        b"done=",
+    )?;
+    Ok(NodeAsk::Beat { id, running, done })
 }

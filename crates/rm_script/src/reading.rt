@@ -7,7 +7,7 @@ ghost use Rattle.rm_script.specs.Reading.{AnswersReading};
 use crate::drafts::Draft;
 use crate::errors::ScriptError;
 use crate::limits::MOST_BYTES;
-use crate::lines::cut_line;
+use rm_lines::cut_line;
 use rm_types::{Items, MOST_LINES, Script};
 use std::alloc::Global;
 
@@ -39,13 +39,13 @@ fn script_of(alloc: Global, bytes: &[u8]) -> Result<Script, ScriptError>
         }
         draft = match draft.with_text(alloc, text) {
             Ok(next) => next,
-            Err(error) => return Err(error.at(line)),
+            Err(error) => return Err(ScriptError::at(error, line)),
         };
         rest = after;
         count = line;
     }
     match draft.into_script() {
         Ok(script) => Ok(script),
-        Err(error) => Err(error.at(count + 1)),
+        Err(error) => Err(ScriptError::at(error, count + 1)),
     }
 }

@@ -1,14 +1,14 @@
 ghost use Rattle.std.specs.Prelude.{◌≡◌, ◌↔◌, Some, IfSome, not, position};
 ghost use Rattle.std.specs.Option.{option_map};
 ghost use Rattle.rm_types.specs.Texts.{is_printable};
-ghost use Rattle.rm_script.specs.Lines.{size_of_first};
+ghost use Rattle.rm_lines.specs.Lines.{size_of_first};
 ghost use Rattle.rm_script.specs.Faults.{line_at, limit_at, unprintable, broken_limit, IsOtherFault};
 
-use crate::errors::LineError;
 use crate::faults::{Form, Limit, ScriptFault};
 use crate::forms::form_of;
 use crate::limits::{MOST_BYTES, MOST_LINE_BYTES};
-use crate::lines::{Line, cut_line, is_printable, is_skipped, line_of};
+use crate::lines::{Line, is_printable, line_of};
+use rm_lines::{LineError, cut_line, is_skipped};
 use rm_types::MOST_LINES;
 use std::alloc::Global;
 

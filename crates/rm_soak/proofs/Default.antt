@@ -5,7 +5,7 @@ use Rattle.json.specs.Json.{value}
 use Rattle.json.specs.Lex.{lex, punctuate}
 use Rattle.serde_json.specs.Data.{object, no_members}
 use Rattle.serde_json.specs.Read.{read}
-use Rattle.rm_cluster.specs.Rules.{IsSettingsOf, first_broken, max_attempts_of, max_completed_of, max_apps_of, wait_ms_of, acl_enable_of, admin_acl_of, max_memory_of, max_vcores_of, groups_of, queues_of, has_known_keys}
+use Rattle.rm_cluster.specs.Rules.{IsSettingsOf, first_broken, max_attempts_of, max_completed_of, max_apps_of, wait_ms_of, acl_enable_of, admin_acl_of, max_memory_of, max_vcores_of, groups_of, queues_of, recover_ended_containers_of, has_known_keys}
 use Rattle.rm_soak.specs.Settings.{AreDefault, soak_settings}
 
 empty_read : read (codes "{}") ≡ Some (object no_members)
@@ -13,7 +13,7 @@ unfolding value lex punctuate
 empty_read = refl
 
 empty_set : IsSettingsOf (object no_members) (record soak_settings { max_completed = 1000 })
-unfolding first_broken max_attempts_of max_completed_of max_apps_of wait_ms_of acl_enable_of admin_acl_of max_memory_of max_vcores_of groups_of queues_of has_known_keys
+unfolding first_broken max_attempts_of max_completed_of max_apps_of wait_ms_of acl_enable_of admin_acl_of max_memory_of max_vcores_of groups_of queues_of recover_ended_containers_of has_known_keys
 empty_set =
     record {
       unbroken = refl;

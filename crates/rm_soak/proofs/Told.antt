@@ -56,7 +56,6 @@ submission_fits k =
       memory = (omega arith, omega arith);
       vcores = (omega arith, omega arith);
       attempts = (omega arith, omega arith);
-      keep = refl;
       modify = refl;
     }
 

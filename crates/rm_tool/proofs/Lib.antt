@@ -1,4 +1,2 @@
 mod Comings
 mod Moments
-mod Parses
-mod Rows

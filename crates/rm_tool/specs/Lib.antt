@@ -1,6 +1,5 @@
 pub mod Gates
 pub mod Outcomes
-pub mod Reading
 pub mod Runs
 pub mod Words
 pub mod salvage

@@ -1,10 +1,9 @@
 -- The words of the tool. This project's own.
-use Rattle.std.specs.Prelude.{ℕ, List, [], ◌∷◌, Bool, ◌==◌, Option, None, Some, if◌then◌else◌, codes}
-use Rattle.std.specs.List.{count_by}
+use Rattle.std.specs.Prelude.{ℕ, List, [], ◌∷◌, Option, None, Some, if◌then◌else◌, codes}
 use Rattle.std.specs.Str.{bytes_eq}
 use Rattle.rm_tool.specs.declared.words.Mode.{Mode}
 use Rattle.rm_tool.specs.declared.words.Mode.TheVariants as modes
-use Rattle.rm_types.specs.Texts.{is_flag}
+use Rattle.rm_words.specs.Words.{are_names}
 
 -- what the words ask for, with names as lists of bytes: a check of a file, a store of the old form as one of two areas, what can be salvaged of a file; a summary of
 -- a page, what it tells of an id, or a picture of it
@@ -32,10 +31,6 @@ request_named (mode ∷ file ∷ []) =
 request_named (mode ∷ file ∷ new ∷ []) =
     if bytes_eq mode (codes "convert") then Some (Convert file new) else if bytes_eq mode (codes "salvage") then Some (Salvage file new) else if bytes_eq mode (codes "follow") then Some (Follow file new) else None
 request_named _ = None
-
--- no word begins with `-`: there are no flags
-abbrev pub are_names : List (List ℕ) → Bool
-are_names words = count_by is_flag words == 0
 
 -- what the words ask for
 abbrev pub request_of : List (List ℕ) → Option ToolRequest

@@ -5,7 +5,7 @@
 //! what the new disk holds then, and that a crash at any moment leaves a store there. `run_tool` hands it the system's files, the standard output and a draft of the new file, which it gives its
 //! name once all that was to be written lasts; what no contract says of the system's files is tested.
 //!
-//! `salvage` finds what stands in the bytes of a store. The crate stands on `rm_store` for what that means, on `rm_report` for what pages tell, on `rm_outside` and `rm_disk` for the edge, on `clap` for the words, on `rm_page` and
+//! `salvage` finds what stands in the bytes of a store. The crate stands on `rm_store` for what that means, on `rm_report` for what pages tell, on `rm_outside` and `rm_disk` for the edge, on `rm_words`, and with it `clap`, for the words, on `rm_page` and
 //! `sha2` for the sum of a store's page.
 #![tactic(auto)]
 
@@ -13,7 +13,6 @@ mod messages;
 mod outcomes;
 mod pages;
 mod program;
-mod reading;
 mod reports;
 pub mod salvage;
 mod store_files;

@@ -12,9 +12,9 @@ use std::fmt::{Display, Formatter, Write};
 
 /// How many bytes the records of a job take, from its submission to its end with one attempt: of the shipped example's, and with the
 /// longest texts.
-const SHIPPED_JOB: u64 = 150;
+const SHIPPED_JOB: u64 = 151;
 
-const LONGEST_JOB: u64 = 1464;
+const LONGEST_JOB: u64 = 1465;
 
 /// A form, as pages have it.
 #[derive(Clone, Copy)]

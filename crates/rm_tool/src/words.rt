@@ -1,11 +1,10 @@
 ghost use Rattle.std.specs.Prelude.{◌≡◌, [], ◌∷◌, Some, None, IfErr, IfNone, IfOk, IfSome, true, map, string_bytes};
-ghost use Rattle.std.specs.List.{count_by};
 ghost use Rattle.clap.specs.Walk.{texts};
-ghost use Rattle.rm_tool.specs.Words.{are_names, requested, request_named, request_of};
-ghost use Rattle.rm_types.specs.Texts.{is_flag};
+ghost use Rattle.rm_tool.specs.Words.{requested, request_named, request_of};
+ghost use Rattle.rm_words.specs.Words.{are_names};
 
-use crate::reading::read_words;
 use rm_types::NoMemory;
+use rm_words::{are_names, read_names};
 use std::alloc::Global;
 
 /// What the tool is to do.
@@ -35,35 +34,11 @@ pub fn mode_of<'a>(alloc: Global, words: &'a [String]) -> Result<Option<Mode<'a>
     if !are_names(words) {
         return Ok(None);
     }
-    let matches = read_words(alloc, words)?;
+    let matches = read_names(alloc, words)?;
     let Some(names) = matches.get_strs("names") else {
         return Ok(None);
     };
     Ok(mode_by(names))
-}
-
-/// Whether a word begins with `-`.
-fn is_flag(word: &str) -> bool
-    ensures { result ≡ is_flag word.now }
-{
-    match word.as_bytes() {
-        [first, ..] => *first == b'-',
-        [] => false,
-    }
-}
-
-/// How many of the words begin with `-`.
-fn flags(words: &[String]) -> usize
-    ensures { result ≡ count_by is_flag (map string_bytes words.now) }
-{
-    words.iter().filter(|word| is_flag(word.as_str())).count()
-}
-
-/// Whether no word begins with `-`.
-fn are_names(words: &[String]) -> bool
-    ensures { result ≡ are_names (map string_bytes words.now) }
-{
-    flags(words) == 0
 }
 
 /// The mode that these names ask for.

@@ -99,19 +99,19 @@ known_first word words none = go (is_unknown word) refl (sym (sum_by-cons (λ (w
     go true e sum = absurd (omega arith)
     go false e sum = (e, omega arith)
 
-times_first : (word one : Text) (words : List Text) → times_said word (one ∷ words) ≡ cond (bytes_eq one word) 1 0 + times_said word words
+pub times_first : (word one : Text) (words : List Text) → times_said word (one ∷ words) ≡ cond (bytes_eq one word) 1 0 + times_said word words
 times_first word one words = sum_by-cons (λ (w : Text). cond (bytes_eq w word) 1 0) one words
 
 -- a name is neither flag
-no_file : (word : Text) → is_flag word ≡ false → bytes_eq word (codes "--file") ≡ false
+pub no_file : (word : Text) → is_flag word ≡ false → bytes_eq word (codes "--file") ≡ false
 no_file [] plain = refl
 no_file (byte ∷ bytes) plain = rw plain refl
 
-no_moves : (word : Text) → is_flag word ≡ false → bytes_eq word (codes "--moves") ≡ false
+pub no_moves : (word : Text) → is_flag word ≡ false → bytes_eq word (codes "--moves") ≡ false
 no_moves [] plain = refl
 no_moves (byte ∷ bytes) plain = rw plain refl
 
-name_first : (word : Text) (words : List Text) → is_flag word ≡ false → names (word ∷ words) ≡ word ∷ names words
+pub name_first : (word : Text) (words : List Text) → is_flag word ≡ false → names (word ∷ words) ≡ word ∷ names words
 name_first word words plain = rw plain refl
 
 -- the walk passes over the words, and ends with rows that hold these names, and each flag so often

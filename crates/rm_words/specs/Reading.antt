@@ -1,5 +1,5 @@
--- What `clap` reads the words of the program as. This project's own.
-use Rattle.std.specs.Prelude.{◌≡◌, List, [], ◌∷◌, Bool, true, false, Some, codes, option_map}
+-- What `clap` reads the words of a program as. This project's own.
+use Rattle.std.specs.Prelude.{◌≡◌, List, [], Bool, true, false, Some, codes, option_map}
 use Rattle.clap.specs.Words.{App, Rule, Text, found_of, matched_of, new_rule, one_text, raw_values, with_rule}
 use Rattle.clap.specs.Simple.{new_shape}
 use Rattle.clap.specs.declared.builder.action.ArgAction.TheVariants.{Append, SetTrue}
@@ -33,3 +33,7 @@ pub record MatchesWords (matches : ArgMatches) (words : List Text) : Type 0 wher
   pub named : option_map raw_values (matched_of (found_of matches) (codes "names")) ≡ unless_empty (names words)
   pub moves : one_text (found_of matches) (codes "moves") ≡ Some (flag_value (shows_moves words))
   pub file : one_text (found_of matches) (codes "file") ≡ Some (flag_value (is_in_file words))
+
+-- the matches hold the words in their order, all of them as names
+abbrev pub MatchesNames : ArgMatches → List Text → Type 0
+MatchesNames matches words = option_map raw_values (matched_of (found_of matches) (codes "names")) ≡ unless_empty words

@@ -1,12 +1,15 @@
 -- The words of the program. This project's own.
-use Rattle.std.specs.Prelude.{ℕ, List, [], ◌∷◌, filter, Bool, ◌&&◌, ◌||◌, not, ◌==◌, nat_lt, Option, None, Some, option_map, if◌then◌else◌, codes}
+use Rattle.std.specs.Prelude.{ℕ, List, [], ◌∷◌, filter, Bool, true, false, ◌&&◌, ◌||◌, not, ◌==◌, nat_lt, Option, None, Some, option_map, if◌then◌else◌, codes}
 use Rattle.std.specs.List.{count_by}
 use Rattle.std.specs.Str.{bytes_eq}
+use Rattle.rm_formats.specs.declared.TheConstants.{STORE_SIZE}
 use Rattle.rm_types.specs.Ranges.{IsWithin}
-use Rattle.rm_script.specs.Numbers.{number_between}
+use Rattle.rm_lines.specs.Numbers.{number_between}
 use Rattle.rm_soak.specs.Limits.{most_soaked}
 use Rattle.rm_words.specs.declared.modes.Mode.{Mode}
 use Rattle.rm_words.specs.declared.modes.Mode.TheVariants as modes
+use Rattle.rm_words.specs.declared.modes.ModeName.{ModeName}
+use Rattle.rm_words.specs.declared.modes.ModeName.TheVariants as rows
 use Rattle.rm_types.specs.Texts.{is_flag}
 
 -- who moves the lanes of a run: one thread, or seven workers in threads of their own
@@ -38,6 +41,10 @@ IsWithinSoak mode = Unit {0}
 abbrev pub names : List (List ℕ) → List (List ℕ)
 names words = filter (λ word. not (is_flag word)) words
 
+-- no word begins with `-`: there are no flags
+abbrev pub are_names : List (List ℕ) → Bool
+are_names words = count_by is_flag words == 0
+
 -- how often a word stands among the words
 abbrev pub times_said : List ℕ → List (List ℕ) → ℕ
 times_said word words = count_by (λ one. bytes_eq one word) words
@@ -62,16 +69,51 @@ shows_moves words = not (times_said (codes "--moves") words == 0)
 abbrev pub is_in_file : List (List ℕ) → Bool
 is_in_file words = not (times_said (codes "--file") words == 0)
 
--- what names ask for: `plain` and two others a run, `threads` and two others one by workers, `replay` and three others one by a schedule, `soak` and a
--- number, from 1 to the most and with no zero before it, a soak, and `store` alone a listing; these two have no moves
+-- the word of a mode
+abbrev pub word_of : ModeName → List ℕ
+word_of rows.Plain = codes "plain"
+word_of rows.Replay = codes "replay"
+word_of rows.Threads = codes "threads"
+word_of rows.Soak = codes "soak"
+word_of rows.Store = codes "store"
+
+-- the mode that a word names
+abbrev pub mode_named : List ℕ → Option ModeName
+mode_named word =
+    if bytes_eq word (word_of rows.Plain) then Some rows.Plain
+    else if bytes_eq word (word_of rows.Threads) then Some rows.Threads
+    else if bytes_eq word (word_of rows.Replay) then Some rows.Replay
+    else if bytes_eq word (word_of rows.Soak) then Some rows.Soak
+    else if bytes_eq word (word_of rows.Store) then Some rows.Store
+    else None
+
+-- a mode writes a page that may show moves
+abbrev pub has_moves : ModeName → Bool
+has_moves rows.Plain = true
+has_moves rows.Replay = true
+has_moves rows.Threads = true
+has_moves rows.Soak = false
+has_moves rows.Store = false
+
+-- what a mode asks for with these names behind it: `plain` and two a run, `threads` and two one by workers, `replay` and three one by a schedule, `soak` and a
+-- number, from 1 to the most and with no zero before it, a soak, and `store` with none a listing
+abbrev pub asked_with : ModeName → List (List ℕ) → Option Asked
+asked_with rows.Plain (cluster ∷ script ∷ []) = Some (Run cluster script None OneThread)
+asked_with rows.Replay (cluster ∷ script ∷ schedule ∷ []) = Some (Run cluster script (Some schedule) OneThread)
+asked_with rows.Threads (cluster ∷ script ∷ []) = Some (Run cluster script None Workers)
+asked_with rows.Soak (number ∷ []) = option_map (λ n. Soak n) (number_between 1 most_soaked number)
+asked_with rows.Store [] = Some Listing
+asked_with _ _ = None
+
+-- the same of what a word names, where it is a mode, and has moves if they are to be shown
+abbrev pub asked_as : Bool → Option ModeName → List (List ℕ) → Option Asked
+asked_as moves None names = None
+asked_as moves (Some name) names = if moves && not (has_moves name) then None else asked_with name names
+
+-- what names ask for, of which the first is the mode's
 abbrev pub asked_by : Bool → List (List ℕ) → Option Asked
-asked_by moves (mode ∷ cluster ∷ script ∷ schedule ∷ []) = if bytes_eq mode (codes "replay") then Some (Run cluster script (Some schedule) OneThread) else None
-asked_by moves (mode ∷ cluster ∷ script ∷ []) =
-    if bytes_eq mode (codes "plain") then Some (Run cluster script None OneThread) else if bytes_eq mode (codes "threads") then Some (Run cluster script None Workers) else None
-asked_by moves (mode ∷ number ∷ []) =
-    if bytes_eq mode (codes "soak") && not moves then option_map (λ n. Soak n) (number_between 1 most_soaked number) else None
-asked_by moves (mode ∷ []) = if bytes_eq mode (codes "store") && not moves then Some Listing else None
-asked_by moves _ = None
+asked_by moves [] = None
+asked_by moves (word ∷ names) = asked_as moves (mode_named word) names
 
 -- what the words ask for; with another flag, or one that is repeated, nothing
 abbrev pub mode_of : List (List ℕ) → Option Asked
@@ -85,3 +127,9 @@ without_threads other = other
 -- what the words ask for that is done without threads
 abbrev pub plain_mode_of : List (List ℕ) → Option Asked
 plain_mode_of words = without_threads (mode_of words)
+
+-- how many bytes the device has over which a call is made, by what was asked for
+abbrev pub device_size : Asked → ℕ
+device_size (Run cluster script schedule mover) = STORE_SIZE
+device_size (Soak number) = STORE_SIZE
+device_size Listing = STORE_SIZE

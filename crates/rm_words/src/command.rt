@@ -19,8 +19,8 @@ pub struct CommandLine<'a> {
 }
 
 /// What the program's words ask for. But for the flags `--file` and `--moves`, each of which may stand anywhere and once,
-/// they are `plain` or `threads` and two names; `replay` and three names; `soak` and a number from 1 to 1000; or `store`
-/// alone. The last two have no `--moves`. The answer is `None` where the words are not of this form; another word that
+/// they are the word of a mode and what stands behind it by the table of modes (`ModeName::row`), which also says whether it
+/// may have `--moves`. The answer is `None` where the words are not of this form; another word that
 /// begins with `-` is no part of it. Want of memory may come on any words but those with a flag that is unknown or repeated.
 pub fn command_line<'a>(
     alloc: Global,

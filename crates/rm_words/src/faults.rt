@@ -3,7 +3,8 @@ ghost use Rattle.rm_words.specs.Words.{mode_of};
 
 use crate::command::command_line;
 use crate::flags::{is_flag, is_unknown, name_at, stands_once};
-use rm_script::number_in;
+use crate::modes::{ModeName, Operand};
+use rm_lines::number_in;
 use rm_soak::MOST_SOAKED;
 use rm_types::NoMemory;
 use std::alloc::Global;
@@ -45,12 +46,12 @@ pub fn word_fault<'a>(alloc: Global, words: &'a [String]) -> Result<Option<WordF
 {
     match command_line(alloc, words)? {
         Some(_) => Ok(None),
-        None => Ok(Some(first_fault(words))),
+        None => Ok(Some(fault_among(words))),
     }
 }
 
-/// What is wrong with words that ask for nothing.
-fn first_fault(words: &[String]) -> WordFault<'_> {
+/// What is wrong with words that ask for nothing. It reads no command line.
+pub fn fault_among(words: &[String]) -> WordFault<'_> {
     match flag_fault(words) {
         Some(fault) => fault,
         None => name_fault(words),
@@ -72,27 +73,6 @@ fn flag_fault(words: &[String]) -> Option<WordFault<'_>> {
     None
 }
 
-/// How many names stand behind a mode; none where the word is no mode.
-fn names_behind(mode: &str) -> Option<usize> {
-    match mode {
-        "plain" | "threads" => Some(2),
-        "replay" => Some(3),
-        "soak" => Some(1),
-        "store" => Some(0),
-        _ => None,
-    }
-}
-
-/// What stands behind a mode at this place.
-fn name_behind(mode: &str, place: usize) -> &'static str {
-    match place {
-        0 if mode == "soak" => "the number of its applications",
-        0 => "the name of a cluster file",
-        1 => "the name of a script",
-        _ => "the name of a schedule",
-    }
-}
-
 /// How many of the words are names.
 fn names_among(words: &[String]) -> usize {
     words.iter().filter(|word| !is_flag(word.as_str())).count()
@@ -104,20 +84,22 @@ fn name_fault(words: &[String]) -> WordFault<'_> {
     if mode.is_empty() {
         return WordFault::NoMode;
     }
-    let Some(wanted) = names_behind(mode) else {
+    let Some(name) = ModeName::of_word(mode) else {
         return WordFault::UnknownMode { word: mode };
     };
+    let operands = name.row().operands;
     let found = names_among(words).saturating_sub(1);
-    if found < wanted {
-        let what = name_behind(mode, found);
+    if let Some(operand) = operands.get(found) {
+        let what = operand.meaning();
         return WordFault::Lacks { mode, what };
     }
-    if found > wanted {
-        let word = name_at(words, wanted + 1);
+    if found > operands.len() {
+        let word = name_at(words, operands.len() + 1);
         return WordFault::Surplus { mode, word };
     }
     let number = name_at(words, 1);
-    if mode == "soak" && number_in(number.as_bytes(), 1, u64::from(MOST_SOAKED)).is_none() {
+    let is_soak = operands.first() == Some(&Operand::Applications);
+    if is_soak && number_in(number.as_bytes(), 1, u64::from(MOST_SOAKED)).is_none() {
         return WordFault::NoNumber { word: number };
     }
     WordFault::NoMoves { mode }

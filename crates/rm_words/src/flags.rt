@@ -1,6 +1,6 @@
 ghost use Rattle.std.specs.Prelude.{◌≡◌, [], map, slice_get, string_bytes, unwrap_or};
 ghost use Rattle.std.specs.List.{count_by};
-ghost use Rattle.rm_words.specs.Words.{has_flags, is_unknown, names, stands_once, times_said};
+ghost use Rattle.rm_words.specs.Words.{are_names, has_flags, is_unknown, names, stands_once, times_said};
 ghost use Rattle.rm_types.specs.Texts.{is_flag};
 
 /// Whether a word begins with `-`.
@@ -11,6 +11,20 @@ pub(crate) fn is_flag(word: &str) -> bool
         [first, ..] => *first == b'-',
         [] => false,
     }
+}
+
+/// How many of the words begin with `-`.
+fn flags(words: &[String]) -> usize
+    ensures { result ≡ count_by is_flag (map string_bytes words.now) }
+{
+    words.iter().filter(|word| is_flag(word.as_str())).count()
+}
+
+/// Whether no word begins with `-`.
+pub fn are_names(words: &[String]) -> bool
+    ensures { result ≡ are_names (map string_bytes words.now) }
+{
+    flags(words) == 0
 }
 
 /// Whether a word begins with `-` and is none of the two flags.

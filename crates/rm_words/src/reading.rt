@@ -1,7 +1,7 @@
 ghost use Rattle.std.specs.Prelude.{◌≡◌, IfErr, IfOk, map, string_bytes, true};
 ghost use Rattle.clap.specs.Words.{app_of, kind_of};
-ghost use Rattle.rm_words.specs.Words.{has_flags};
-ghost use Rattle.rm_words.specs.Reading.{MatchesWords, program};
+ghost use Rattle.rm_words.specs.Words.{are_names, has_flags};
+ghost use Rattle.rm_words.specs.Reading.{MatchesNames, MatchesWords, program};
 
 use clap::error::ErrorKind;
 use clap::{Arg, ArgAction, ArgMatches, Command, Error};
@@ -49,4 +49,12 @@ pub(crate) fn read_words<'a>(alloc: Global, words: &'a [String]) -> Result<ArgMa
             Err(NoMemory)
         }
     }
+}
+
+/// What stands among words of which none begins with `-`: all of them as `names`, in their order.
+pub fn read_names<'a>(alloc: Global, words: &'a [String]) -> Result<ArgMatches<'a>, NoMemory>
+    requires { are_names (map string_bytes words.now) ≡ true }
+    ensures { IfOk result (λ matches. MatchesNames matches (map string_bytes words.now)) }
+{
+    read_words(alloc, words)
 }

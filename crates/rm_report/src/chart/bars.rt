@@ -12,6 +12,13 @@ pub(crate) struct Stretch {
     pub(crate) is_heard: bool,
 }
 
+/// On which line a container was handed to a later attempt, and the number of that attempt.
+#[derive(Clone, Copy)]
+pub(crate) struct Handing {
+    pub(crate) line: Line,
+    pub(crate) attempt: u32,
+}
+
 /// How a container stands.
 #[derive(Clone, Copy)]
 enum Standing {
@@ -30,6 +37,8 @@ pub(crate) struct Bar {
     pub(crate) node: usize,
     /// The stretches of its time that are over, in order.
     pub(crate) stretches: Vec<Stretch>,
+    /// When it was handed over, in order.
+    pub(crate) handings: Vec<Handing>,
     standing: Standing,
 }
 
@@ -39,6 +48,7 @@ impl Bar {
         Bar {
             node,
             stretches: Vec::new(alloc),
+            handings: Vec::new(alloc),
             standing: Standing::Ended,
         }
     }
@@ -47,6 +57,17 @@ impl Bar {
     pub(crate) fn hear(&mut self, line: Line) -> Result<(), NoMemory> {
         self.close(line)?;
         self.standing = Standing::Heard { since: line };
+        Ok(())
+    }
+
+    /// It is handed to a later attempt, unless that attempt had it already: its master may be told once more.
+    pub(crate) fn hand_over(&mut self, attempt: u32, line: Line) -> Result<(), NoMemory> {
+        if let Some(last) = self.handings.last() {
+            if last.attempt == attempt {
+                return Ok(());
+            }
+        }
+        self.handings.push(Handing { line, attempt })?;
         Ok(())
     }
 

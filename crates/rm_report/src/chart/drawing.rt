@@ -43,7 +43,8 @@ pub(crate) const SMALL: &[u8] =
 
 /// A picture of the run whose page this is, as an SVG. Each line of the page is a step to the right. The lives of the manager are
 /// columns, and each crash is a line across. Below one another are the states of the first twelve jobs, the operations of the store,
-/// and each node with a bar for each container; of more than sixty containers, it shows how many there are on each node.
+/// and each node with a bar for each container; of more than sixty containers, it shows how many there are on each node. A tick across
+/// a bar, or across the numbers of a node, says that a container is handed to a later attempt.
 ///
 /// `NotAPage` comes only where the bytes are no page, and names the first line that is none of one; `Memory` may come of any bytes.
 pub fn draw(alloc: Global, page: &[u8]) -> Result<Vec<u8>, PageError>
@@ -149,7 +150,11 @@ fn put_description(svg: &mut Svg, scene: &Scene) -> Result<(), NoMemory> {
     put_count(svg, kept_in(scene), b"operation is", b"operations are")?;
     svg.markup(
         b" kept. A bar for each container goes from its grant or absorption to its ending; it is dashed where the container runs on through a crash and the new life hasn't heard of it.",
-    )
+    )?;
+    if scene.has_handings() {
+        svg.markup(b" A tick across a bar says to which later attempt the container is handed.")?;
+    }
+    Ok(())
 }
 
 /// How many lives went down.

@@ -1,5 +1,5 @@
 use crate::chart::drawing::{LEFT, MARGIN, SPAN, draw_disk, state_style, state_word};
-use crate::chart::nodes::{CONTAINER, MASTER, MOST_BARS, UNHEARD};
+use crate::chart::nodes::{CONTAINER, MASTER, MOST_BARS, UNHEARD, draw_handing_tick};
 use crate::chart::scenes::Scene;
 use crate::chart::svg::{Anchor, Frame, Svg, Tenths, width_of};
 use rm_types::{NoMemory, StateWord};
@@ -53,7 +53,7 @@ fn draw_states(svg: &mut Svg, y: Tenths) -> Result<(), NoMemory> {
     Ok(())
 }
 
-/// How to read the numbers, and the steps.
+/// How to read the numbers, the steps, and the sign of a container that is handed over, where there is one.
 fn draw_notes(svg: &mut Svg, scene: &Scene, y: Tenths) -> Result<(), NoMemory> {
     let numbers: &[u8] = if scene.bars.len() > MOST_BARS {
         b"a row is as high as the number before it"
@@ -62,7 +62,16 @@ fn draw_notes(svg: &mut Svg, scene: &Scene, y: Tenths) -> Result<(), NoMemory> {
     } else {
         b"numbers: attempt.container"
     };
-    draw_text(svg, MARGIN, y, numbers)?;
+    let x = draw_text(svg, MARGIN, y, numbers)?;
+    if scene.has_handings() {
+        draw_handing_tick(
+            svg,
+            x.saturating_add(110),
+            y.saturating_sub(20),
+            y.saturating_add(140),
+        )?;
+        draw_text(svg, x.saturating_add(270), y, b"handed to a later attempt")?;
+    }
     svg.label(
         LEFT + SPAN,
         y.saturating_add(100),

@@ -1,4 +1,4 @@
-use crate::chart::bars::{Bar, Stretch};
+use crate::chart::bars::{Bar, Handing, Stretch};
 use crate::chart::drawing::{LEFT, MARGIN, SMALL, SPAN, between, put_count, x_of};
 use crate::chart::scenes::Scene;
 use crate::chart::svg::{Anchor, Frame, Svg, Tenths, width_of};
@@ -28,6 +28,14 @@ pub(crate) const UNHEARD_MASTER: &[u8] =
 
 pub(crate) const UNHEARD: &[u8] =
     b"fill=\"#fff\" stroke=\"#2f5230\" stroke-width=\"0.8\" stroke-dasharray=\"4 3\"";
+
+/// How it is drawn that a container is handed over, and how it is said to which attempt, in so many letters at most.
+const HANDING: &[u8] = b"stroke=\"#6a1b9a\" stroke-width=\"3\"";
+
+const HANDING_NAME: &[u8] =
+    b"font-size=\"9.5\" fill=\"#6a1b9a\" stroke=\"#fff\" stroke-width=\"2\" paint-order=\"stroke\"";
+
+const HANDING_LETTERS: usize = 21;
 
 /// The same as counts.
 const COUNTED_MASTERS: &[u8] = b"fill=\"#5b3a12\"";
@@ -172,10 +180,40 @@ fn draw_bar(
             name.as_slice(),
         )?;
     }
+    'handings: for handing in bar.handings.as_slice() {
+        draw_handing(svg, x_of(scene, handing.line), y, *handing)?;
+    }
     if let Some(first) = bar.stretches.first() {
         draw_bar_name(svg, scene, id, is_master, first, y)?;
     }
     Ok(())
+}
+
+/// A tick across a container's bar where it is handed to a later attempt, and which attempt that is.
+fn draw_handing(svg: &mut Svg, x: Tenths, y: Tenths, handing: Handing) -> Result<(), NoMemory> {
+    draw_handing_tick(svg, x, y.saturating_sub(30), y.saturating_add(150))?;
+    let end = x
+        .saturating_add(40)
+        .saturating_add(width_of(HANDING_LETTERS, 60));
+    let (place, anchor) = if end <= LEFT + SPAN {
+        (x.saturating_add(40), Anchor::Start)
+    } else {
+        (x.saturating_sub(40), Anchor::End)
+    };
+    svg.begin_label(place, y.saturating_add(98), anchor, HANDING_NAME)?;
+    svg.markup(b"to attempt ")?;
+    svg.number(handing.attempt)?;
+    svg.end_label()
+}
+
+/// The tick alone, from one height to another.
+pub(crate) fn draw_handing_tick(
+    svg: &mut Svg,
+    x: Tenths,
+    from: Tenths,
+    to: Tenths,
+) -> Result<(), NoMemory> {
+    svg.line((x, from), (x, to), HANDING)
 }
 
 fn bar_style(is_master: bool, is_heard: bool) -> &'static [u8] {
@@ -261,6 +299,7 @@ fn draw_counts(
         x = x.saturating_add(COUNT_WIDTH);
     }
     draw_count(svg, start, x, base, last, most)?;
+    draw_handings(svg, scene, places, top, base)?;
     svg.begin_label(
         LEFT.saturating_sub(40),
         top.saturating_add(100),
@@ -270,6 +309,28 @@ fn draw_counts(
     svg.number(most)?;
     svg.end_label()?;
     Ok(base.saturating_add(60))
+}
+
+/// A tick across the counts of a node wherever containers of it are handed over.
+fn draw_handings(
+    svg: &mut Svg,
+    scene: &Scene,
+    places: &[usize],
+    top: Tenths,
+    base: Tenths,
+) -> Result<(), NoMemory> {
+    let mut drawn = None;
+    'places: for place in places {
+        if let Some((_, bar)) = scene.bars.get_index(*place) {
+            'handings: for handing in bar.handings.as_slice() {
+                if drawn != Some(handing.line) {
+                    draw_handing_tick(svg, x_of(scene, handing.line), top, base)?;
+                    drawn = Some(handing.line);
+                }
+            }
+        }
+    }
+    Ok(())
 }
 
 /// The greatest total of all counts.

@@ -156,14 +156,20 @@ impl Scene {
         self.add_node(node)
     }
 
-    /// What an answered message shows: a job that is submitted, a master that registers, or a node.
+    /// What an answered message shows: a job that is submitted, a master that registers, containers that it is handed, or a node.
     fn add_answer(&mut self, message: &Message, reply: &Reply) -> Result<(), NoMemory> {
         match (message, reply) {
             (Message::Client(_, ClientAsk::Submit(id, _)), Reply::Submitted) => self.submit(*id),
-            (
-                Message::Master(attempt, MasterAsk::Register),
-                Reply::MasterRegistered | Reply::Took { .. },
-            ) => self.enter(attempt.app, StateWord::Running),
+            (Message::Master(attempt, MasterAsk::Register), Reply::MasterRegistered) => {
+                self.enter(attempt.app, StateWord::Running)
+            }
+            (Message::Master(attempt, MasterAsk::Register), Reply::Took { kept }) => {
+                self.enter(attempt.app, StateWord::Running)?;
+                self.hand_over(*attempt, kept.as_slice())
+            }
+            (Message::Master(attempt, _), Reply::Allocated { grants, .. }) => {
+                self.hand_over(*attempt, grants.as_slice())
+            }
             (Message::Node(node, _), _) => self.add_node(node),
             _ => Ok(()),
         }
@@ -255,6 +261,31 @@ impl Scene {
         bar.hear(line)?;
         self.bars.insert(id, bar)?;
         Ok(())
+    }
+
+    /// The master of an attempt is told of these containers: those of other attempts are handed to it.
+    fn hand_over(&mut self, attempt: AttemptId, grants: &[Grant]) -> Result<(), NoMemory> {
+        let line = self.lines;
+        'grants: for grant in grants {
+            if grant.id.attempt != attempt {
+                if let Some(bar) = self.bars.get_mut(&grant.id) {
+                    bar.hand_over(attempt.number, line)?;
+                }
+            }
+        }
+        Ok(())
+    }
+
+    /// Whether a container was handed over.
+    pub(crate) fn has_handings(&self) -> bool {
+        'bars: for place in 0..self.bars.len() {
+            if let Some((_, bar)) = self.bars.get_index(place) {
+                if !bar.handings.is_empty() {
+                    return true;
+                }
+            }
+        }
+        false
     }
 
     fn end(&mut self, list: &[ContainerId]) -> Result<(), NoMemory> {

@@ -13,7 +13,7 @@ use Rattle.rm_disk.proofs.Views.{leaves_of, leaves_trans}
 use Rattle.rm_journal.proofs.Payloads.{length-journal_record}
 use Rattle.rm_journal.specs.two_areas.Areas.{AreasAt, AreasHold, HasCurrent, HasLayout, LeavesEitherLayout, head_of}
 use Rattle.rm_journal.proofs.two_areas.Steps.{layout}
-use Rattle.rm_store.specs.Content.{HasContent}
+use Rattle.rm_store.specs.Content.{HasContent, HasFrames}
 use Rattle.rm_store.proofs.Framed.{reads_frames}
 use Rattle.rm_store.proofs.Puts.{own_half}
 use Rattle.rm_store.proofs.SoFar.{content_of}
@@ -74,10 +74,15 @@ built_leaves old between new a ops bytes payloads framed none quiet empty zero h
       now = λ image image_is. each image (leaves.now image image_is);
     }
 
+frames_in : (a : AreasAt) (ops : List Op) (image : List ℕ) → All IsOperation ops → AreasHold a (map frame ops) image → HasFrames image ops
+frames_in a ops image framed has = record { can = framed; layout = own_half a.half (map frame ops) image (layout a (map frame ops) image has) }
+
 pub holds_all : (v : DiskView) (a : AreasAt) (ops : List Op) → All IsOperation ops → stray ops ≡ None → IfTold v (AreasHold a (map frame ops)) × EachImage v (AreasHold a (map frame ops)) → HoldsAll v ops
 holds_all v a ops framed none has = record {
   now = λ bytes told. content_of a (map frame ops) ops bytes (has.0 bytes told) (reads_frames ops framed) none;
   images = λ image is. content_of a (map frame ops) ops image (has.1 image is) (reads_frames ops framed) none;
+  frames = λ bytes told. frames_in a ops bytes framed (has.0 bytes told);
+  image_frames = λ image is. frames_in a ops image framed (has.1 image is);
 }
 
 pub live_area : (a : AreasAt) (payloads : List (List ℕ)) (bytes : List ℕ) → 1 ≤ a.generation → AreasHold a payloads bytes → HasLiveArea bytes

@@ -17,7 +17,7 @@ use Rattle.rm_tool.specs.declared.salvage.fronts.Stop.{Stop}
 use Rattle.rm_tool.specs.declared.salvage.fronts.Stop.TheVariants as stops
 use Rattle.rm_tool.specs.salvage.Fronts.{BeginsFront, FrontStops}
 
--- a store of the old form holds these operations: the frames of them all, and of nothing else, are the payloads of one journal over all its bytes; none
+-- a store of the old form holds these operations: the payloads of one journal over all its bytes read as them all, and as nothing else; none
 -- is stray
 pub record HasOldContent (bytes : List ℕ) (ops : List Op) : Type 0 where
   pub payloads : List (List ℕ)

@@ -42,7 +42,7 @@ pub record IsOpenToNothing (behind : List ℕ) : Type 0 where
   pub is : behind ≡ 1 ∷ rest
   pub no_record : NoRecord rest
 
--- the payload of a record is the frame of no operation
+-- the payload of a record reads as no operation
 pub record IsRecordOfNone (behind : List ℕ) : Type 0 where
   pub payload : List ℕ
   pub first : HasFirst behind payload

@@ -33,7 +33,7 @@ pub record IsStrayBehind (payload : List ℕ) (ops : List Op) : Type 0 where
   pub framed : IsFrameOf payload op
   pub stray : fits_records (records ops) op ≡ false
 
--- what came of a payload: its operation was taken in, or it is the frame of none, or stray, and then nothing was changed
+-- what came of a payload: its operation was taken in, or it reads as none, or that is stray, and then nothing was changed
 abbrev pub IsTakenPayload : List ℕ → List Op → List Op → Records → Records → Taken → Type 0
 IsTakenPayload payload old new before after taken.In = TookIn payload old new after
 IsTakenPayload payload old new before after taken.NoFrame = (new ≡ old) × (after ≡ before) × ((op : Op) → IsFrameOf payload op → ⊥)

@@ -5,11 +5,11 @@ use Rattle.rm_formats.specs.declared.TheConstants.{GENERATION_RECORD, RECORD_HEA
 use Rattle.rm_formats.specs.Frames.{frame}
 use Rattle.rm_disk.specs.Disk.{DiskView, AtEachMoment, EachImage, IfTold}
 use Rattle.rm_journal.specs.two_areas.Areas.{HasCurrent}
-use Rattle.rm_store.specs.Content.{HasContent, half_of}
+use Rattle.rm_store.specs.Content.{HasContent, HasFrames, half_of}
 use Rattle.rm_tool.specs.declared.salvage.errors.WriteError.{WriteError}
 use Rattle.rm_tool.specs.declared.salvage.errors.WriteError.TheVariants.{Damaged, Used, Full}
 
--- how many bytes an area has up to the gate behind these operations
+-- how many bytes an area has up to the gate behind these operations, as they are written now
 abbrev pub bytes_before : List Op → ℕ
 bytes_before ops = GENERATION_RECORD + sum (map (λ op. length (frame op) + RECORD_HEAD) ops)
 
@@ -25,10 +25,12 @@ pub record HasLiveArea (bytes : List ℕ) : Type 0 where
 abbrev pub LeavesNoneOrAll : DiskView → DiskView → List Op → Type 0
 LeavesNoneOrAll old new ops = AtEachMoment old new (λ image. HasContent image [] ⊎ HasContent image ops)
 
--- a disk holds these operations, and so does whatever a crash leaves of it
+-- a disk holds these operations, and so does whatever a crash leaves of it; its payloads are their frames as they are written now
 pub record HoldsAll (disk : DiskView) (ops : List Op) : Type 0 where
   pub now : IfTold disk (λ bytes. HasContent bytes ops)
   pub images : EachImage disk (λ image. HasContent image ops)
+  pub frames : IfTold disk (λ bytes. HasFrames bytes ops)
+  pub image_frames : EachImage disk (λ image. HasFrames image ops)
 
 -- the disk is refused: it isn't a new one, or too small
 abbrev pub IsDiskRefusal : WriteError → Type 0

@@ -66,7 +66,7 @@ fn fetch(disk: &mut FixedDisk, at: u64, many: usize, bytes: &mut Vec<u8>) -> Res
 pub enum Taken {
     /// Its operation is one more of them.
     In,
-    /// It is the frame of no operation.
+    /// It reads as no operation.
     NoFrame,
     /// Its operation doesn't fit them.
     Stray,

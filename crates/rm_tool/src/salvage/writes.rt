@@ -15,7 +15,7 @@ use rm_types::{Items, Op};
 use std::alloc::Global;
 
 /// Writes operations, of which none is stray, as the store of a new disk: one without a live area, as all bytes 0 are. At every moment a crash leaves a
-/// store without operations or one with them all, and after `Ok` it leaves them all.
+/// store without operations or one with them all, and after `Ok` it leaves them all, in the frames of now.
 ///
 /// `Used` comes where an area of the disk is live, `Damaged` where its areas are damaged, `Full` exactly where the operations don't fit
 /// an area: these three change no byte. `DiskFault` comes where the disk failed, and `Memory` where none was found.

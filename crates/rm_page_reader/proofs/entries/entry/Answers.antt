@@ -1,6 +1,6 @@
 use Rattle.std.proofs.Common.{sym, ap, ◌∙◌}
 use Rattle.std.specs.Str.{bytes_eq}
-use Rattle.rm_page_reader.proofs.Halves.{cut_some}
+use Rattle.rm_lines.proofs.Splits.{cut_some}
 use Rattle.rm_page_reader.proofs.EntryLines.{served_found, lone_served, other_found}
 use Rattle.rm_page_reader.proofs.entries.entry.Goals as goal
 

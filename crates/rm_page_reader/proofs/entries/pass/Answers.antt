@@ -1,25 +1,26 @@
-use Rattle.std.proofs.Common.{ℕ, List, All, map, ◌++◌}
+use Rattle.std.proofs.Common.{List, ◌∷◌, ◌++◌, map, All, ap, ◌∙◌}
 use Rattle.std.specs.Prelude.{codes}
+use Rattle.rm_types.specs.Ranges.{IsContainerId}
 use Rattle.rm_types.specs.declared.ids.ContainerId.{ContainerId}
-use Rattle.rm_types.specs.declared.texts.TextKind.TheVariants.{Node}
-use Rattle.rm_types.specs.Ranges.{IsText, IsContainerId}
 use Rattle.rm_formats.specs.IdTexts.{container_text}
 use Rattle.rm_formats.specs.Wording.{bracketed}
-use Rattle.rm_page_reader.proofs.Found.{stops_word, left_same}
-use Rattle.rm_page_reader.proofs.EntryParts.{pass_parts, pass_is}
+use Rattle.rm_lines.specs.Results.{IsOf}
+use Rattle.rm_lines.proofs.Parts.{first_same, left_same, stops}
+use Rattle.rm_lines.proofs.Splits.{behind_same}
+use Rattle.rm_page_reader.proofs.EntryParts.{pass_is, pass_parts}
 use Rattle.rm_page_reader.proofs.entries.pass.Goals as goal
-
-pub returns-in_err-node : goal.returns-in_err-node
-returns-in_err-node c =
-    stops_word c.from_residual.result c.in_err-node.field-0.0 _ (λ (node : List ℕ). node) (IsText Node) c.args.words c.from_residual.ensures.1 c.in_err-node.ensures
-    (λ entry of. let parts = pass_parts c.args.words entry of in (parts.node, _, parts.same, parts.node_is))
 
 pub returns-in_err-ids : goal.returns-in_err-ids
 returns-in_err-ids c =
-    stops_word c.from_residual-in_err-ids.result c.in_err-ids.field-0.0 _ (λ (items : List ContainerId). codes "grants=" ++ bracketed (map container_text items)) (All IsContainerId) c.name.new.self c.from_residual-in_err-ids.ensures.1 c.in_err-ids.ensures
-    (λ entry of. let parts = pass_parts c.args.words entry of in (parts.ids, _, left_same c.in_ok-node.ensures.0 parts.same, parts.ids_are))
+    stops c.from_residual-in_err-ids.result c.in_err-ids.field-0.0 _ (IsOf (λ (ids : List ContainerId). bracketed (map container_text ids)) (All IsContainerId) c.in_ok-field.field-0.now) c.from_residual-in_err-ids.ensures.1 c.in_err-ids.ensures
+    (λ entry of.
+    let parts = pass_parts c.args.words entry of in
+    let word = first_same c.in_ok-field.ensures.field (left_same c.in_ok-word.ensures.word parts.same) in
+    (parts.ids, record { same = behind_same (codes "grants=") c.in_ok-field.field-0.now (bracketed (map container_text parts.ids)) word; fits = parts.ids_are }))
 
 pub returns : goal.returns
 returns c =
-    pass_is c.args.words c.name.new.self c.list_behind.new.words c.in_ok-node.node c.in_ok-ids.ids c.in_ok-grants.grants c.in_ok-pass_of.field-0 c.in_ok-node.ensures.0 c.in_ok-ids.ensures.0 c.in_ok-end.ensures.end
-    c.in_ok-node.ensures.1 c.in_ok-grants.ensures.0 c.in_ok-grants.ensures.1 c.in_ok-pass_of.ensures
+    let first = c.in_ok-word.ensures.word ∙ ap (λ word. word ∷ c.word.new.self) c.in_ok-node.ensures.same in
+    let second = c.in_ok-field.ensures.field ∙ ap (λ text. (codes "grants=" ++ text) ∷ c.field.new.self) c.in_ok-ids.ensures.same in
+    pass_is c.args.words c.word.new.self c.field.new.self c.in_ok-node.node c.in_ok-ids.ids c.in_ok-grants.grants c.in_ok-pass_of.field-0 first second c.in_ok-end.ensures.end
+    c.in_ok-node.ensures.fits c.in_ok-grants.ensures.0 c.in_ok-grants.ensures.1 c.in_ok-pass_of.ensures

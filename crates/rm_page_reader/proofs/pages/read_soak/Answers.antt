@@ -1,5 +1,5 @@
 use Rattle.std.proofs.Common.{sym, ◌∙◌}
-use Rattle.rm_script.proofs.Parts.{differ}
+use Rattle.rm_lines.proofs.Parts.{differ}
 use Rattle.rm_page_reader.proofs.Soaking.{soak_wants, soak_written}
 use Rattle.rm_page_reader.proofs.pages.read_soak.Goals as goal
 

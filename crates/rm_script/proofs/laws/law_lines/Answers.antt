@@ -1,4 +1,4 @@
-use Rattle.rm_script.proofs.Feeds.{are_lines, only_lines}
+use Rattle.rm_lines.proofs.Feeds.{are_lines, only_lines}
 use Rattle.rm_script.proofs.laws.law_lines.Goals as goal
 
 pub returns-clause-lines : goal.returns-clause-lines

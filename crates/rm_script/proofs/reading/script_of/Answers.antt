@@ -12,7 +12,7 @@ returns-then-line-gt-MOST_LINES c =
     let apart = eqb-false _ _ (sym c.lines-test.ensures) in
     let rest : List ℕ = c.lines.rest.now in
     let some : 0 < length rest = omega (arith, apart) in
-    let next = is_next c.lines.count c.args.bytes.now rest c.lines.draft c.cut_line.result.0.now c.cut_line.result.1.now c.lines.invariant some c.cut_line.ensures.lines c.cut_line.ensures.cut in
+    let next = is_next c.lines.count c.args.bytes.now rest c.lines.draft c.cut_line.result.0.now c.cut_line.result.1.now c.lines.invariant some (c.cut_line.ensures.lines some) c.cut_line.ensures.sizes in
     elim c.then-line-gt-MOST_LINES.branch [
       | then-line-gt-MOST_LINES-via-then-line-gt-MOST_LINES w ↦ too_many c.lines.count c.args.bytes.now rest c.lines.draft _ _ c.lines.invariant next (omega arith)
       | then-line-gt-MOST_LINES-via-else-line-gt-MOST_LINES+then-bytes-after-gt-MOST_BYTES w ↦
@@ -24,7 +24,7 @@ returns-in-Err c =
     let apart = eqb-false _ _ (sym c.lines-test.ensures) in
     let rest : List ℕ = c.lines.rest.now in
     let some : 0 < length rest = omega (arith, apart) in
-    let next = is_next c.lines.count c.args.bytes.now rest c.lines.draft c.cut_line.result.0.now c.cut_line.result.1.now c.lines.invariant some c.cut_line.ensures.lines c.cut_line.ensures.cut in
+    let next = is_next c.lines.count c.args.bytes.now rest c.lines.draft c.cut_line.result.0.now c.cut_line.result.1.now c.lines.invariant some (c.cut_line.ensures.lines some) c.cut_line.ensures.sizes in
     subst (λ e. AnswersReading c.args.bytes.now (Err e)) (sym c.at.ensures) (refuses c.in-Err.error c.lines.count c.args.bytes.now rest c.lines.draft _ _ c.lines.invariant next c.in-Err.ensures)
 
 pub lines-preserved : goal.lines-preserved
@@ -32,7 +32,7 @@ lines-preserved c =
     let apart = eqb-false _ _ (sym c.lines-test.ensures) in
     let rest : List ℕ = c.lines.rest.now in
     let some : 0 < length rest = omega (arith, apart) in
-    let next = is_next c.lines.count c.args.bytes.now rest c.lines.draft c.cut_line.result.0.now c.cut_line.result.1.now c.lines.invariant some c.cut_line.ensures.lines c.cut_line.ensures.cut in
+    let next = is_next c.lines.count c.args.bytes.now rest c.lines.draft c.cut_line.result.0.now c.cut_line.result.1.now c.lines.invariant some (c.cut_line.ensures.lines some) c.cut_line.ensures.sizes in
     goes_on c.lines.count c.args.bytes.now rest c.lines.draft c.in-Ok.next _ _ c.lines.invariant next (omega arith) (omega arith) c.in-Ok.ensures
 
 pub returns-in-Ok-into_script : goal.returns-in-Ok-into_script

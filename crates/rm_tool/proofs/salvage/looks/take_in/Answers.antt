@@ -19,3 +19,8 @@ returns-in-Ok c =
     fits : (b : Bool) → fits_records (records c.args.ops.now) c.in-Some.op ≡ b → fits_records (records c.args.ops.now) c.in-Some.op ≡ true
     fits true e = e
     fits false e = absurd (let s = c.in-Ok.ensures.stray (rw c.requires e) in cc)
+
+pub returns-in-Err-Stray : goal.returns-in-Err-Stray
+returns-in-Err-Stray c =
+    let stray = rw c.requires at c.in-Err-Stray.ensures.only_stray in
+    (refl, c.in-Err-Stray.ensures.err, record { op = c.in-Some.op; framed = rw c.in-Some.is at c.in_ok-op.ensures.some; stray = stray c.in-Err-Stray.field-0-is })

@@ -1,0 +1,15 @@
+use Rattle.std.proofs.Common.{◌∷◌}
+use Rattle.std.specs.Prelude.{codes}
+use Rattle.rm_types.specs.Ranges.{IsAttemptId}
+use Rattle.rm_formats.specs.IdTexts.{attempt_text}
+use Rattle.rm_formats.specs.Wording.{clock_words}
+use Rattle.rm_lines.specs.Results.{IsOf}
+use Rattle.rm_lines.proofs.Parts.{stops}
+use Rattle.rm_script.specs.Messages.{IsScriptClockAsk}
+use Rattle.rm_script.proofs.Asks.{lease_said}
+use Rattle.rm_script.proofs.clocks.master_lease.Goals as goal
+
+pub returns-in_err-attempt : goal.returns-in_err-attempt
+returns-in_err-attempt c =
+    stops c.from_residual-in_err-attempt.result c.in_err-attempt.field-0.0 (IsOf clock_words IsScriptClockAsk (codes "expire" ∷ codes "master" ∷ c.args.words)) (IsOf attempt_text IsAttemptId c.in_ok-word.field-0.now)
+    c.from_residual-in_err-attempt.ensures.1 c.in_err-attempt.ensures (λ ask is. lease_said c.in_ok-word.field-0.now c.args.words c.word.new.self ask c.in_ok-word.ensures.word is)
