@@ -5,8 +5,8 @@ use Rattle.rm_disk.specs.Disk.{DiskView, IsQuiet, IfTold}
 use Rattle.rm_disk.specs.Fuse.{Fused}
 use Rattle.rm_disk.proofs.Views.{leaves_of, quiet_same}
 use Rattle.rm_store.specs.Content.{HasContent}
-use Rattle.rm_plain.specs.Starts.{DiskStays}
-use Rattle.rm_plain.specs.Survives.{HoldsWithin}
+use Rattle.rm_lives.specs.Starts.{DiskStays}
+use Rattle.rm_lives.specs.Survives.{HoldsWithin}
 use Rattle.rm_store.specs.Store.{seen}
 use Rattle.rm_main.specs.Made.{LeavesDevice}
 

@@ -1,9 +1,9 @@
 -- Which files of a run were read, by what it came to.
-use Rattle.std.proofs.Common.{◌≡◌, ◌⊎◌, ℕ, List, Option, inl, inr}
+use Rattle.std.proofs.Common.{ℕ, List, Option, inl, inr}
 use Rattle.rm_types.specs.declared.outcomes.Outcome.{Outcome}
 use Rattle.rm_types.specs.declared.outcomes.Outcome.TheVariants.{Done, Usage, ReadFault, WriteFault, ClusterRefused, ScriptRefused, ScheduleRefused, DiskFault, StoreDamaged, StoreFull, EpochsSpent, Memory, DeviceSmall}
 use Rattle.rm_main.specs.Inputs.{IsUnread, StopsAtCluster, StopsAtScript}
-use Rattle.rm_main.specs.Runs.{ReadsAllFiles, ReadsBy, ReadsScript}
+use Rattle.rm_main.specs.modes.RunReads.{ReadsAllFiles, ReadsBy, ReadsScript}
 use Rattle.rm_outside.specs.Shelves.{ShelfTells}
 use Rattle.rm_main.specs.Ways.{IsOfRun}
 

@@ -7,19 +7,22 @@ use Rattle.rm_types.specs.declared.settings.Settings.{Settings}
 use Rattle.rm_types.specs.Records.{stray}
 use Rattle.rm_model.specs.Lawful.{Lawful}
 use Rattle.rm_laws.proofs.Cleans.{cleans_strangers}
+use Rattle.rm_laws.proofs.Done.{ends_are_told}
 use Rattle.rm_laws.proofs.EndsTold.{ends_stay}
 use Rattle.rm_laws.proofs.Grants.{grants_differ}
 use Rattle.rm_laws.proofs.Ids.{ids_differ}
 use Rattle.rm_laws.proofs.Lives.{lives_differ}
+use Rattle.rm_laws.proofs.Missing.{missing_falls}
 use Rattle.rm_laws.proofs.NoneStray.{none_stray}
 use Rattle.rm_laws.proofs.Recorded.{kept_stays}
 use Rattle.rm_laws.proofs.Registered.{registered_are_kept}
+use Rattle.rm_laws.proofs.Released.{released_stay}
 use Rattle.rm_laws.proofs.Rows.{rows_are_of_log}
 use Rattle.rm_laws.proofs.RowsFit.{rows_differ, rows_fit}
 use Rattle.rm_laws.proofs.Told.{told_stays}
 use Rattle.rm_main.specs.Laws.{MeetsLaws}
 
-pub meets_laws : (settings : Settings) (script : Script) (opening : List Op) (log : List Entry) → Lawful settings script opening log → stray opening ≡ None → MeetsLaws opening log
+pub meets_laws : (settings : Settings) (script : Script) (opening : List Op) (log : List Entry) → Lawful settings script opening log → stray opening ≡ None → MeetsLaws settings opening log
 meets_laws settings script opening log lawful whole =
     let allowed = lawful.allowed in
     record {
@@ -37,4 +40,7 @@ meets_laws settings script opening log lawful whole =
       lives = lives_differ settings opening log allowed;
       cleans = cleans_strangers settings opening log allowed;
       registered = registered_are_kept settings opening log allowed;
+      released = released_stay settings opening log allowed;
+      done = ends_are_told settings opening log whole allowed;
+      missing = missing_falls settings opening log whole allowed;
     }

@@ -1,8 +1,11 @@
 pub mod Scripts
 pub mod Outcomes
+pub mod Endings
 pub mod Devices
 pub mod Completing
+pub mod StoreStays
 pub mod Laws
 pub mod FilesRead
-mod Rooted
+pub mod Rooted
 pub mod Calls
+pub mod Runs

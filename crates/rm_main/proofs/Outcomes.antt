@@ -9,16 +9,15 @@ use Rattle.rm_types.specs.declared.outcomes.Outcome.TheVariants.{Done, Usage, Re
 use Rattle.rm_disk.specs.Disk.{DiskView, EachImage, IfTold}
 use Rattle.rm_disk.specs.Fuse.{Fused}
 use Rattle.rm_store.specs.Content.{HasContent}
-use Rattle.rm_plain.specs.declared.halts.Stop.{Stop}
-use Rattle.rm_plain.specs.declared.halts.Stop.TheVariants as stops
-use Rattle.rm_plain.specs.Starts.{IsUnopenedBy}
-use Rattle.rm_plain.specs.Stops.{IsStoppedBy}
+use Rattle.rm_lives.specs.declared.halts.Stop.{Stop}
+use Rattle.rm_lives.specs.declared.halts.Stop.TheVariants as stops
+use Rattle.rm_lives.specs.Starts.{IsUnopenedBy}
+use Rattle.rm_lives.specs.Stops.{IsStoppedBy}
 use Rattle.rm_store.specs.Store.{seen}
 use Rattle.rm_main.specs.Made.{Made}
-use Rattle.rm_main.specs.Runs.{CallEnds, IsCausedBy, IsListed, IsWritten, Ran, Writes, WritesPage}
-use Rattle.rm_outside.specs.Shelves.{ShelfTells}
-use Rattle.rm_main.specs.Ways.{IsOfRun, IsOfWriting, outcome_of}
-use Rattle.rm_words.specs.Words.{Asked}
+use Rattle.rm_main.specs.Runs.{IsCausedBy, IsWritten, Writes, WritesPage}
+use Rattle.rm_main.specs.modes.ListingClause.{IsListed}
+use Rattle.rm_main.specs.Ways.{IsOfListing, IsOfWriting, outcome_of}
 
 -- a whole page is a beginning of it
 whole : (old new : Option (List ℕ)) (bytes : List ℕ) → Appends old new bytes → Writes Memory old new bytes
@@ -207,18 +206,36 @@ pub listed_held : {D : Type 0} (view : D → DiskView) (disk : Fused D) (ops : L
 listed_held view disk ops (Ok done) empty holds = inr (holds refl)
 listed_held view disk ops (Err stop) empty holds = inl empty
 
--- how a run that was made ends
-pub run_ends : {D : Type 0} (view : D → DiskView) (told : ShelfTells) (asked : Option Asked) (made : Made D) (outcome : Outcome) → IsOfRun outcome → Ran view told asked made outcome → CallEnds view told asked made outcome
-run_ends view told asked made Done h ran = inl ran
-run_ends view told asked made Usage h ran = absurd h
-run_ends view told asked made ReadFault h ran = absurd h
-run_ends view told asked made (WriteFault took_nothing) h ran = inl ran
-run_ends view told asked made (ClusterRefused place) h ran = absurd h
-run_ends view told asked made (ScriptRefused line) h ran = absurd h
-run_ends view told asked made (ScheduleRefused place) h ran = ran
-run_ends view told asked made DiskFault h ran = inl ran
-run_ends view told asked made (StoreDamaged offset) h ran = inl ran
-run_ends view told asked made (StoreFull needed room) h ran = ran
-run_ends view told asked made EpochsSpent h ran = ran
-run_ends view told asked made (DeviceSmall size) h ran = absurd h
-run_ends view told asked made Memory h ran = inl ran
+-- the outcome of a listing is that of its writing, or of a store that wasn't opened
+pub of_listing : {D : Type 0} (view : D → DiskView) (before after : Fused D) (ended : Result (Unit {0}) Stop) (written : Outcome) → IsOfWriting written → IfErr ended (IsUnopenedBy view before after) → IsOfListing (outcome_of ended written)
+of_listing view before after (Ok done) Done h why = tt
+of_listing view before after (Ok done) Usage h why = absurd h
+of_listing view before after (Ok done) ReadFault h why = absurd h
+of_listing view before after (Ok done) (WriteFault took_nothing) h why = tt
+of_listing view before after (Ok done) (ClusterRefused place) h why = absurd h
+of_listing view before after (Ok done) (ScriptRefused line) h why = absurd h
+of_listing view before after (Ok done) (ScheduleRefused place) h why = absurd h
+of_listing view before after (Ok done) DiskFault h why = absurd h
+of_listing view before after (Ok done) (StoreDamaged offset) h why = absurd h
+of_listing view before after (Ok done) (StoreFull needed room) h why = absurd h
+of_listing view before after (Ok done) EpochsSpent h why = absurd h
+of_listing view before after (Ok done) (DeviceSmall size) h why = absurd h
+of_listing view before after (Ok done) Memory h why = tt
+of_listing view before after (Err stops.DiskFault) Done h why = tt
+of_listing view before after (Err (stops.Damaged offset)) Done h why = tt
+of_listing view before after (Err (stops.Full needed room)) Done h why = absurd why
+of_listing view before after (Err (stops.Schedule place)) Done h why = absurd why
+of_listing view before after (Err stops.EpochsSpent) Done h why = absurd why
+of_listing view before after (Err stops.Memory) Done h why = tt
+of_listing view before after (Err stop) Usage h why = absurd h
+of_listing view before after (Err stop) ReadFault h why = absurd h
+of_listing view before after (Err stop) (WriteFault took_nothing) h why = tt
+of_listing view before after (Err stop) (ClusterRefused place) h why = absurd h
+of_listing view before after (Err stop) (ScriptRefused line) h why = absurd h
+of_listing view before after (Err stop) (ScheduleRefused place) h why = absurd h
+of_listing view before after (Err stop) DiskFault h why = absurd h
+of_listing view before after (Err stop) (StoreDamaged offset) h why = absurd h
+of_listing view before after (Err stop) (StoreFull needed room) h why = absurd h
+of_listing view before after (Err stop) EpochsSpent h why = absurd h
+of_listing view before after (Err stop) (DeviceSmall size) h why = absurd h
+of_listing view before after (Err stop) Memory h why = tt

@@ -1,5 +1,5 @@
 -- The settings of a cluster file keep the rules and limits that a manager rests on: their queues begin with the root, and they allow few attempts.
-use Rattle.std.proofs.Common.{◌≡◌, List, [], ◌∷◌, true, ◌&&◌, ap, Some}
+use Rattle.std.proofs.Common.{◌≡◌, List, [], ◌∷◌, true, ap, Some}
 use Rattle.std.specs.Prelude.{option_map, slice_get}
 use Rattle.std.specs.Str.{bytes_eq}
 use Rattle.std.proofs.lemmas.Slice.Eq.{bytes_eq-Decides}

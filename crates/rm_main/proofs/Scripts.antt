@@ -1,5 +1,5 @@
 -- A script that was read can be run.
-use Rattle.std.proofs.Common.{◌≡◌, ◌⊎◌, inl, inr, ℕ, ◌<◌, List, [], ◌∷◌, ◌++◌, refl, sym, subst, arith}
+use Rattle.std.proofs.Common.{◌≡◌, ◌⊎◌, inl, inr, ℕ, List, [], ◌∷◌, ◌++◌, refl, sym, subst, arith}
 use Rattle.std.specs.Prelude.{All}
 use Rattle.std.specs.List.{AllByRecursion}
 use Rattle.std.proofs.lemmas.List.Elements.{All-from_recursion, recursion_from_All}
@@ -42,7 +42,6 @@ framed user submission name h =
       memory_mb = h.memory;
       vcores = h.vcores;
       attempts = h.attempts;
-      keep = h.keep;
       modify = h.modify;
     }
 
@@ -144,7 +143,7 @@ can_live life h =
       low = omega (arith, h.stamp);
       high = omega (arith, h.stamp);
       segments = follow life.segments (recursion_from_All AreRead life.segments h.messages) h.closes;
-      few = h.few;
+      few = omega (arith, h.few);
     }
 
 abbrev CrashesSo : Life → Type 0

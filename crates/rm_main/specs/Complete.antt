@@ -1,25 +1,22 @@
 -- A run that nothing stands in the way of.
-use Rattle.std.specs.Prelude.{◌≡◌, ◌≤◌, ℕ, List, Option, Some, slice_get}
+use Rattle.std.specs.Prelude.{◌≡◌, ℕ, List, Option, None, Some}
 use Rattle.std.specs.declared.alloc.Global.{Global}
-use Rattle.rm_types.specs.declared.operations.Op.{Op}
 use Rattle.rm_types.specs.declared.scripts.Script.{Script}
 use Rattle.rm_types.specs.declared.settings.Settings.{Settings}
 use Rattle.rm_types.specs.Counts.{Rose}
 use Rattle.rm_disk.specs.Disk.{DiskView}
-use Rattle.rm_store.specs.Content.{DeviceHolds}
-use Rattle.rm_model.specs.Lawful.{state_after}
 use Rattle.rm_outside.specs.Shelves.{bytes_read, ShelfTells, WereRead}
 use Rattle.rm_cluster.specs.Clusters.{IsCluster}
 use Rattle.rm_script.specs.Scripts.{IsScript}
-use Rattle.rm_store.specs.Kept.{needed_for}
-use Rattle.rm_store.specs.Store.{IsBelowLast, room_behind}
 use Rattle.rm_core.specs.Words.{new_manager}
-use Rattle.rm_plain.specs.Policy.{run_after}
+use Rattle.rm_lives.specs.Order.{run_after}
 use Rattle.rm_plain.specs.Schedule.{StopsAt, letters_left, steps_of}
-use Rattle.rm_plain.specs.Stops.{NoneLeft}
+use Rattle.rm_lives.specs.Complete.{HasPlace}
+use Rattle.rm_lives.specs.Stops.{IsDue}
+use Rattle.rm_soak.specs.Scripts.{soak_of}
 use Rattle.rm_main.specs.Made.{Made}
 use Rattle.rm_main.specs.Runs.{AreSettings, IsScriptOf}
-use Rattle.rm_words.specs.Words.{Asked, Run, Soak, OneThread}
+use Rattle.rm_words.specs.Words.{Asked, Run, Soak, Listing, OneThread}
 
 -- a shelf tells of two files that they hold settings and a script
 pub record AreAccepted (told : ShelfTells) (cluster_file script_file : List ℕ) : Type 0 where
@@ -32,24 +29,23 @@ pub record AreAccepted (told : ShelfTells) (cluster_file script_file : List ℕ)
   pub script : Script
   pub of_script : IsScript (bytes_read script_bytes) script
 
--- the words ask for a run, and the files that they name hold settings and a script; or for a soak
+-- the words ask for a run, and the files that they name hold settings and a script; or for a soak or a listing, which read none
 abbrev pub IsAccepted : ShelfTells → Option Asked → Type 0
 IsAccepted told (Some (Run cluster_file script_file schedule_file mover)) = AreAccepted told cluster_file script_file
 IsAccepted told (Some (Soak number)) = Unit {0}
-IsAccepted told _ = ⊥
+IsAccepted told (Some Listing) = Unit {0}
+IsAccepted told None = ⊥
 
--- The device tells that it held a store. An epoch and a stamp are left behind what is kept after the log; the
--- operation that awaits there, if one does, has room, and the generation of the disk given back is below the last one; and the disk inside
--- the fuse counted no fault.
-pub record HasPlace {D : Type 0} (view : D → DiskView) (made : Made D) : Type 0 where
-  pub bytes : List ℕ
-  pub told : (view made.before.inner).told ≡ Some bytes
-  pub ops : List Op
-  pub holds : DeviceHolds bytes ops
-  pub some_left : NoneLeft made.opening made.log → ⊥
-  pub room : (op : Op) → slice_get (state_after made.opening made.log).awaiting 0 ≡ Some op → needed_for op ≤ room_behind (view made.after.inner).size (state_after made.opening made.log).kept
-  pub below_last : IsBelowLast (view made.after.inner)
-  pub faultless : Rose (view made.before.inner).faults (view made.after.inner).faults → ⊥
+-- a life of the script that was asked for is due behind the log
+abbrev pub LifeIsDue : {D : Type 0} → ShelfTells → Option Asked → Made D → Type 0
+LifeIsDue told (Some (Run cluster_file script_file schedule_file mover)) made = (script : Script) × IsScriptOf (told script_file) script × IsDue script made.opening made.log
+LifeIsDue told (Some (Soak number)) made = IsDue (soak_of number) made.opening made.log
+LifeIsDue told _ made = ⊥
+
+-- nothing of the device stands in the way of what was asked for: it held a store and counted no fault, at each start an epoch and a stamp are left, and an operation that was handed
+-- to it has room
+abbrev pub HasPlaceFor : {D : Type 0} → (D → DiskView) → ShelfTells → Option Asked → Made D → Type 0
+HasPlaceFor view told asked made = HasPlace view made.before made.after (LifeIsDue told asked made) made.opening made.log
 
 -- Where moves are told by a schedule, each of its letters that is reached is known and its lane ready: none stops the run.
 abbrev pub ScheduleIsFollowed : {D : Type 0} → ShelfTells → Option Asked → Made D → Type 0

@@ -1,6 +1,7 @@
 pub mod Shown
 pub mod Made
 pub mod Runs
+pub mod modes
 pub mod Inputs
 pub mod Statuses
 pub mod Ways

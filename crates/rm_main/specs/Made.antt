@@ -1,14 +1,20 @@
 -- What a call of the program made of its device, whatever its outcome.
-use Rattle.std.specs.Prelude.{◌≡◌, ◌≢◌, ◌⊎◌, List, [], None, false}
+use Rattle.std.specs.Prelude.{◌≡◌, ◌≢◌, ◌⊎◌, ℕ, List, [], None, Some, false}
 use Rattle.rm_types.specs.declared.entries.Entry.{Entry}
 use Rattle.rm_types.specs.declared.operations.Op.{Op}
-use Rattle.rm_disk.specs.Disk.{DiskView, IsQuiet, IfTold}
+use Rattle.rm_types.specs.declared.outcomes.Outcome.{Outcome}
+use Rattle.rm_types.specs.declared.outcomes.Outcome.TheVariants.{StoreDamaged, StoreFull}
+use Rattle.rm_disk.specs.Disk.{DiskView, EachImage, IsQuiet, IfTold}
 use Rattle.rm_disk.specs.Fuse.{Fused}
-use Rattle.rm_store.specs.Content.{HasContent}
-use Rattle.rm_plain.specs.Starts.{DiskStays}
-use Rattle.rm_plain.specs.Survives.{SurvivesAll, SurvivesNow}
+use Rattle.rm_store.specs.declared.fault.StoreError.{StoreError}
+use Rattle.rm_store.specs.Causes.{IsWhy}
+use Rattle.rm_store.specs.Content.{DeviceHolds, HasContent}
+use Rattle.rm_store.specs.Errors.{IsOpenError}
+use Rattle.rm_lives.specs.Opens.{IsOfDevice}
+use Rattle.rm_lives.specs.Starts.{DiskStays}
+use Rattle.rm_lives.specs.Survives.{SurvivesAll, SurvivesNow}
 use Rattle.rm_store.specs.Store.{seen}
-use Rattle.rm_main.specs.declared.plain.Ended.{Ended}
+use Rattle.rm_main.specs.declared.ended.Ended.{Ended}
 
 -- what a call made: what its disk held when it was opened, its log, and the disk before it and after it
 pub record Made (D : Type 0) : Type 0 where
@@ -37,3 +43,14 @@ pub record LeavesDevice {D : Type 0} (view : D → DiskView) (made : Made D) : T
   -- or this and the operation that awaited; and where something was logged, it leaves now what is kept, or this and the operation that awaits
   pub images : SurvivesAll made.opening made.log (seen view made.before) (seen view made.after)
   pub images_now : SurvivesNow made.opening made.log (seen view made.before) (seen view made.after)
+
+-- the bytes are a store that opens: no cause for which one is refused holds of them
+abbrev pub OpensAsStore : List ℕ → Type 0
+OpensAsStore bytes = (why : StoreError) → IsOpenError why → IsWhy bytes why → IsOfDevice why
+
+-- A device that holds a store stays one. A call over it doesn't find it damaged; one that logged nothing doesn't find it full; and whatever a crash leaves then of a device on which
+-- something was logged opens again.
+pub record StaysStore {D : Type 0} (view : D → DiskView) (made : Made D) (outcome : Outcome) : Type 0 where
+  pub undamaged : (bytes : List ℕ) (ops : List Op) → (view made.before.inner).told ≡ Some bytes → DeviceHolds bytes ops → (offset : ℕ) → outcome ≡ StoreDamaged offset → ⊥
+  pub unfilled : made.log ≡ [] → (needed room : ℕ) → outcome ≡ StoreFull needed room → ⊥
+  pub opens : made.log ≢ [] → IfTold (seen view made.before) (λ bytes. EachImage (seen view made.after) OpensAsStore)

@@ -2,8 +2,8 @@
 use Rattle.std.specs.Prelude.{Result, Ok, Err}
 use Rattle.rm_types.specs.declared.outcomes.Outcome.{Outcome}
 use Rattle.rm_types.specs.declared.outcomes.Outcome.TheVariants.{Done, WriteFault, ScheduleRefused, DiskFault, StoreDamaged, StoreFull, EpochsSpent, Memory}
-use Rattle.rm_plain.specs.declared.halts.Stop.{Stop}
-use Rattle.rm_plain.specs.declared.halts.Stop.TheVariants as stops
+use Rattle.rm_lives.specs.declared.halts.Stop.{Stop}
+use Rattle.rm_lives.specs.declared.halts.Stop.TheVariants as stops
 
 -- the outcome of writing a page: it was written, or the sink or the memory failed
 abbrev pub IsOfWriting : Outcome → Type 0

@@ -4,7 +4,8 @@ ghost use Rattle.rm_queues.specs.Rules.{KeepsRules};
 ghost use Rattle.rm_invariant.specs.messages.Ranges.{KeepsLimits};
 ghost use Rattle.rm_desk.specs.Scripts.{CanGoAlong};
 ghost use Rattle.std.specs.Option.{option_copied};
-ghost use Rattle.rm_main.specs.Runs.{AreMoves, AreSettings, IsScriptOf, ReadsAllFiles, ReadsBy};
+ghost use Rattle.rm_main.specs.Runs.{AreMoves, AreSettings, IsScriptOf};
+ghost use Rattle.rm_main.specs.modes.RunReads.{ReadsAllFiles, ReadsBy};
 ghost use Rattle.rm_outside.specs.Shelves.{WereRead};
 ghost use Rattle.rm_main.specs.Inputs.{IsOneMore, IsUnread, StopsAtCluster, StopsAtScript, StopsEarly};
 

@@ -1,9 +1,11 @@
 //! All that the program does: it reads a cluster file and a script, runs the script over a device in memory or in a file, and
 //! writes the page of the run to standard output; or it writes what the device's store keeps.
 //!
-//! `top` is the call that does this, over any shelf, sink and device, and by `top_plain` all but the runs of workers in
-//! threads. `run_by` hands it the system's files, the standard output and a device of 4 MiB: an empty one in memory, or that
-//! in the file `rm.store` where its words ask for it; `run_program` hands the words on, and gives the status of the outcome.
+//! `top` is the call that does this, over any shelf, sink and device, and `top_plain` does all but the runs of workers in
+//! threads. Each reads the words once and hands the command line on; what it asks for is a mode, a module of `modes` with one
+//! call, whose clause is the mode's own. `run_by` hands the command line the system's files, the standard output and the device
+//! of its mode: an empty one in memory, or that in the mode's file where the words ask for it; `run_program` hands the words on,
+//! and gives the status of the outcome.
 //! `top` promises that the log of a run is lawful for the settings and the script of these files and
 //! for what the device held, that its moves are those of the schedule and then the plain policy's, or by workers of lanes
 //! that were ready, that what was written is the log's page or a beginning of it, that a run that is Done has come to its
@@ -16,10 +18,11 @@
 #![tactic(auto)]
 
 mod described;
+mod ended;
 mod hints;
 mod inputs;
-mod listing;
 mod messages;
+mod modes;
 mod plain;
 mod program;
 mod progress;
@@ -30,9 +33,10 @@ mod usage;
 mod writing;
 
 pub use described::Described;
+pub use ended::Ended;
 pub use hints::{ScheduleFault, schedule_hint};
 pub use messages::{Cause, Message, Names};
-pub use plain::{Ended, top_plain};
+pub use plain::top_plain;
 pub use program::{Call, run_by, run_program};
 pub use progress::Watched;
 pub use statuses::status_of;

@@ -1,7 +1,9 @@
 //! What is told on standard error of a call that wasn't Done.
+use crate::statuses::STATUS_MEANINGS;
 use rm_disk::FileCause;
-use rm_plain::Stop;
+use rm_lives::Stop;
 use rm_types::Outcome;
+use rm_words::{MODES, ModeRow, STORE_FILE};
 use std::fmt::{Display, Formatter};
 use std::{fmt, io};
 
@@ -10,6 +12,9 @@ const KIT: &str = "rattle-kit-13f logic dac8208d650f15bf";
 
 /// The version of the formats that docs/FORMATS.md tells.
 const FORMATS: u32 = 1;
+
+/// The column, behind the gap before a mode's word, in which the page of modes says what the mode does.
+const PURPOSE_COLUMN: usize = 33;
 
 /// Why something outside failed, as far as that is known; written behind a sentence about it.
 #[derive(Clone, Copy)]
@@ -151,25 +156,73 @@ struct UsagePage<'a> {
 impl Display for UsagePage<'_> {
     fn fmt<W: fmt::Write>(&self, f: &mut Formatter<W>) -> fmt::Result {
         let program = self.program.escape_default();
+        write!(f, "modes of {program}:")?;
+        for name in MODES {
+            write_row(f, name.row())?;
+        }
         write!(
             f,
-            "modes of {program}:
-  plain CLUSTER SCRIPT             runs the script under the cluster file, and writes its page
-  threads CLUSTER SCRIPT           the same by seven workers in threads of their own
-  replay CLUSTER SCRIPT SCHEDULE   the same by the moves of a schedule
-  soak N                           runs a soak of N applications, 1 to 1000, and writes its line
-  store                            writes what the store keeps
+            "
 flags, anywhere among the words:
-  --file    the store is in the file rm.store of this folder, which is made where there is none;
+  --file    the store is in the file {file} of this folder, which is made where there is none;
             without it the store is in memory, and new
-  --moves   for plain, threads and replay: a last line of the page tells the moves
-statuses:
-  0 done   1 words   2 a file not read   3 the page not written   4 cluster file refused
-  5 script refused   6 schedule refused   7 the store's device failed   8 store damaged
-  9 store full   10 epochs or stamps spent   11 out of memory
-manual: README.md and docs/FORMATS.md; formats: {FORMATS}; proved with {KIT}"
+  --moves   for ",
+            file = STORE_FILE
+        )?;
+        write_moving(f)?;
+        f.write_str(": a last line of the page tells the moves\nstatuses:")?;
+        write_statuses(f)?;
+        write!(
+            f,
+            "\nmanual: README.md and docs/FORMATS.md; formats: {FORMATS}; proved with {KIT}"
         )
     }
+}
+
+/// A row of the table of modes, as a line: its words, and what it does.
+fn write_row<W: fmt::Write>(f: &mut Formatter<W>, row: ModeRow) -> fmt::Result {
+    write!(f, "\n  {}", row.word)?;
+    let mut width = row.word.len();
+    for operand in row.operands {
+        let sign = operand.sign();
+        write!(f, " {sign}")?;
+        width = width.saturating_add(1).saturating_add(sign.len());
+    }
+    for _ in width..PURPOSE_COLUMN {
+        f.write_str(" ")?;
+    }
+    f.write_str(row.purpose)
+}
+
+/// The words of the modes whose pages may show moves.
+fn write_moving<W: fmt::Write>(f: &mut Formatter<W>) -> fmt::Result {
+    let many = MODES.iter().filter(|name| name.row().has_moves).count();
+    let mut place = 0usize;
+    for name in MODES {
+        let row = name.row();
+        if row.has_moves {
+            place = place.saturating_add(1);
+            let gap = match place {
+                1 => "",
+                last if last == many => " and ",
+                _ => ", ",
+            };
+            write!(f, "{gap}{}", row.word)?;
+        }
+    }
+    Ok(())
+}
+
+/// What the statuses say, in lines.
+fn write_statuses<W: fmt::Write>(f: &mut Formatter<W>) -> fmt::Result {
+    for (status, meaning) in STATUS_MEANINGS.iter().enumerate() {
+        let gap = match status {
+            0 | 5 | 9 => "\n  ",
+            _ => "   ",
+        };
+        write!(f, "{gap}{status} {meaning}")?;
+    }
+    Ok(())
 }
 
 /// Writes what is to be told of a call to standard error, nothing where it is Done. Where that can't be written the exit

@@ -1,20 +1,20 @@
-ghost use Rattle.std.specs.Prelude.{◌≡◌, ◌⊎◌, map, string_bytes, IfOk};
-ghost use Rattle.rm_main.specs.Calls.{CameBy, OutcomeCountsFaults, EndsProgram, IsNewDevice, IsOfProgram, RanInMemory, RanOver, is_over_file};
+ghost use Rattle.std.specs.Prelude.{◌≡◌, ◌⊎◌, map, string_bytes, IfOk, Some};
+ghost use Rattle.rm_main.specs.Calls.{CameBy, CameTo, OutcomeCountsFaults, EndsProgram, IsNewDevice, IsOfProgram, RanInMemory, RanOver};
+ghost use Rattle.rm_words.specs.Words.{IsWithinSoak, asked};
 
 use crate::described::Described;
+use crate::ended::Ended;
 use crate::hints::{cluster_hint, schedule_hint, script_hint};
 use crate::messages::{Cause, Message, Names, explain};
-use crate::plain::Ended;
+use crate::modes::top_line;
 use crate::progress::Watched;
 use crate::statuses::status_of;
 use crate::terminal::is_terminal;
-use crate::threads::top;
 use crate::usage::{Usage, usage_of};
 use rm_disk::{Disk, FileCause, FileDisk, Fuse, MemDisk, Window};
-use rm_formats::STORE_SIZE;
 use rm_outside::{FileShelf, OutSink, StandardDescriptors};
 use rm_types::{Entry, Items, NoMemory, Op, Outcome};
-use rm_words::{command_line, name_at, word_fault};
+use rm_words::{CommandLine, Mode, Operand, STORE_FILE, command_line, fault_among, name_at};
 use rm_workers::NoGate;
 use std::alloc::Global;
 use std::fmt::Display;
@@ -24,14 +24,21 @@ use std::sync::Wait;
 use std::thread::Threads;
 use std::{env, io};
 
-/// The file of the device that lasts, in the folder in which the program runs.
-const STORE_FILE: &str = "rm.store";
-
 /// The device in memory, as messages name it.
 const MEMORY_DEVICE: &str = "the one in memory";
 
 /// The program's path as these pages have it, where the system tells none.
 const PROGRAM: &str = "crates/yewendro/out/yewendro";
+
+/// What messages name where no words were used.
+const NO_NAMES: Names<'static> = Names {
+    program: PROGRAM,
+    cluster: "",
+    script: "",
+    schedule: "",
+    unread: "/dev/null",
+    device: STORE_FILE,
+};
 
 /// The words of the command line, the program's path first.
 fn words_of<R: Env + AllocGlobal>(rt: &R) -> io::Result<Vec<String>> {
@@ -79,16 +86,16 @@ fn stopped(rt: HostRuntime, outcome: Outcome) -> Call
     }
 }
 
-/// What the program does by these words over a device, which is given back as the call left it, and where it is a file how much of
+/// What the program does by a command line over a device, which is given back as the call left it, and where it is a file how much of
 /// its store is used. Workers run in the threads of the first runtime.
 fn call_over<R: Threads + Wait + Sync, D: Disk + Drop + Send>(
     threads: &R,
     rt: HostRuntime,
-    words: &[String],
+    line: CommandLine<'_>,
     device: D,
-    is_file: bool,
 ) -> (Call, D)
-    ensures ran { RanOver D.view (map string_bytes words.now) device result.1 result.0.outcome }
+    requires { IsWithinSoak line.mode }
+    ensures ran { RanOver D.view (asked line.entry.mode) device result.1 result.0.outcome }
     ensures faults { OutcomeCountsFaults result.0.outcome result.0.shelf result.0.sink }
 {
     let alloc = rt.alloc();
@@ -100,13 +107,13 @@ fn call_over<R: Threads + Wait + Sync, D: Disk + Drop + Send>(
         opening,
         log,
         disk,
-    } = top(threads, alloc, words, &mut shelf, &mut sink, fuse, &NoGate);
+    } = top_line(threads, alloc, line, &mut shelf, &mut sink, fuse, &NoGate);
     let device = disk.inner();
     let call = Call {
         outcome,
         shelf,
         sink,
-        usage: usage_where(is_file, alloc, device.size() / 2, &opening, &log),
+        usage: usage_where(line.is_in_file, alloc, device.size() / 2, &opening, &log),
     };
     (call, device)
 }
@@ -135,60 +142,82 @@ fn run_over<R: Threads + Wait + Sync, D: Disk + Described + Drop + Send>(
     rt: HostRuntime,
     program: &str,
     words: &[String],
-    name: &str,
+    line: CommandLine<'_>,
     device: D,
-    is_file: bool,
 ) -> (Call, D)
-    ensures ran { RanOver D.view (map string_bytes words.now) device result.1 result.0.outcome }
+    requires { IsWithinSoak line.mode }
+    ensures ran { RanOver D.view (asked line.entry.mode) device result.1 result.0.outcome }
     ensures faults { OutcomeCountsFaults result.0.outcome result.0.shelf result.0.sink }
 {
     let ahead = Window::new(rt.alloc(), device);
     let watched = Watched::new(ahead, rt, program, is_terminal(&rt));
-    let (call, watched) = call_over(threads, rt, words, watched, is_file);
+    let (call, watched) = call_over(threads, rt, line, watched);
     let ahead = watched.inner();
     let device = ahead.inner();
     if device.made_new() {
         let program = program.escape_default();
+        let name = device_name(line);
         let _ = eprintln!(rt; "{program}: the store in {name} is new");
     }
-    tell_usage(&rt, program, words, &call, name);
-    tell(&rt, program, words, &call, name, device.last_fault());
+    tell_usage(&rt, program, line, &call);
+    tell(&rt, program, words, line, &call, device.last_fault());
     (call, device)
 }
 
-/// A new device in memory, all of whose bytes are 0.
-fn new_device(alloc: Global) -> Result<MemDisk, NoMemory>
-    ensures { IfOk result IsNewDevice }
-{
-    MemDisk::new(alloc, STORE_SIZE, Items::new(alloc))
+/// The device of a command line, as messages name it.
+fn device_name(line: CommandLine<'_>) -> &'static str {
+    if line.is_in_file {
+        line.mode.device().file
+    } else {
+        MEMORY_DEVICE
+    }
 }
 
-/// What the program does by these words over a new device in memory. Its frame is its own, as that over a file is.
+/// A new device in memory of so many bytes, all of which are 0.
+fn new_device(alloc: Global, size: u64) -> Result<MemDisk, NoMemory>
+    ensures { IfOk result (λ device. IsNewDevice size device) }
+{
+    MemDisk::new(alloc, size, Items::new(alloc))
+}
+
+/// What the program does by a command line over a new device in memory. Its frame is its own, as that over a file is.
 #[inline(never)]
 fn run_in_memory<R: Threads + Wait + Sync>(
     threads: &R,
     rt: HostRuntime,
     program: &str,
     words: &[String],
+    line: CommandLine<'_>,
 ) -> Call
-    ensures ran { (result.outcome ≡ Outcome.Memory) ⊎ RanInMemory (map string_bytes words.now) result.outcome }
+    requires { IsWithinSoak line.mode }
+    ensures ran { (result.outcome ≡ Outcome.Memory) ⊎ RanInMemory (asked line.entry.mode) result.outcome }
     ensures faults { OutcomeCountsFaults result.outcome result.shelf result.sink }
 {
-    match new_device(rt.alloc()) {
-        Ok(device) => run_over(threads, rt, program, words, MEMORY_DEVICE, device, false).0,
+    match new_device(rt.alloc(), line.mode.device().size) {
+        Ok(device) => run_over(threads, rt, program, words, line, device).0,
         Err(NoMemory) => starved(rt, program),
     }
 }
 
 /// Tells on standard error how much of a store in a file is used: of one that was listed, and of one in which less than a tenth of an
 /// area is free.
-fn tell_usage(rt: &HostRuntime, program: &str, words: &[String], call: &Call, device: &str) {
-    let is_listed = call.outcome == Outcome::Done && name_at(words, 0) == "store";
+fn tell_usage(rt: &HostRuntime, program: &str, line: CommandLine<'_>, call: &Call) {
+    let is_listed = call.outcome == Outcome::Done && matches!(line.mode, Mode::Store);
     if let Some(usage) = &call.usage {
         if is_listed || usage.is_nearly_full() {
             let program = program.escape_default();
+            let device = device_name(line);
             let _ = eprintln!(rt; "{program}: {device}: {usage}");
         }
+    }
+}
+
+/// The name that stands among the words as this operand of a mode; empty where the mode has none.
+fn operand_of<'a>(words: &'a [String], mode: Mode<'_>, operand: Operand) -> &'a str {
+    let operands = mode.name().row().operands;
+    match operands.iter().position(|one| *one == operand) {
+        Some(place) => name_at(words, place.saturating_add(1)),
+        None => "",
     }
 }
 
@@ -197,26 +226,22 @@ fn tell(
     rt: &HostRuntime,
     program: &str,
     words: &[String],
+    line: CommandLine<'_>,
     call: &Call,
-    device: &str,
     fault: Option<FileCause<'_>>,
 ) {
     let names = Names {
         program,
-        cluster: name_at(words, 1),
-        script: name_at(words, 2),
-        schedule: name_at(words, 3),
+        cluster: operand_of(words, line.mode, Operand::Cluster),
+        script: operand_of(words, line.mode, Operand::Script),
+        schedule: operand_of(words, line.mode, Operand::Schedule),
         unread: name_at(words, (call.shelf.answered().min(2) + 1) as usize),
-        device,
+        device: device_name(line),
     };
     let cause = call.cause(fault);
     let bytes = call.shelf.last_read();
     let outcome = call.outcome;
     match outcome {
-        Outcome::Usage => match word_fault(rt.alloc(), words) {
-            Ok(Some(hint)) => tell_hint(rt, outcome, names, hint, cause),
-            _ => tell_hint(rt, outcome, names, "the words ask for nothing", cause),
-        },
         Outcome::ClusterRefused { place } => {
             let hint = cluster_hint(rt.alloc(), bytes, place);
             tell_hint(rt, outcome, names, hint, cause)
@@ -254,13 +279,24 @@ fn tell_hint<H: Display + Drop>(
     explain(rt, &message);
 }
 
-/// Whether the device of a call by these words is that in the store's file: they ask for something, and `--file` is among them.
-fn is_over_file(alloc: Global, words: &[String]) -> Result<bool, NoMemory>
-    ensures { IfOk result (λ is. is ≡ is_over_file (map string_bytes words.now)) }
+/// What the program does by a command line, over `file` where this is to be its device, and else over a new one in memory. `file` is given back as
+/// the call left it.
+fn run_line<R: Threads + Wait + Sync, D: Disk + Described + Drop + Send>(
+    threads: &R,
+    rt: HostRuntime,
+    program: &str,
+    words: &[String],
+    line: CommandLine<'_>,
+    file: D,
+) -> (Call, D)
+    requires { IsWithinSoak line.mode }
+    ensures came { CameTo D.view (Some (asked line.entry.mode)) line.entry.is_in_file file result.1 result.0.outcome }
+    ensures faults { OutcomeCountsFaults result.0.outcome result.0.shelf result.0.sink }
 {
-    match command_line(alloc, words)? {
-        Some(line) => Ok(line.is_in_file),
-        None => Ok(false),
+    if line.is_in_file {
+        run_over(threads, rt, program, words, line, file)
+    } else {
+        (run_in_memory(threads, rt, program, words, line), file)
     }
 }
 
@@ -277,9 +313,9 @@ pub fn run_by<R: Threads + Wait + Sync, D: Disk + Described + Drop + Send>(
     ensures came { CameBy D.view (map string_bytes words.now) file result.1 result.0.outcome }
     ensures faults { OutcomeCountsFaults result.0.outcome result.0.shelf result.0.sink }
 {
-    match is_over_file(rt.alloc(), words) {
-        Ok(true) => run_over(threads, rt, program, words, STORE_FILE, file, true),
-        Ok(false) => (run_in_memory(threads, rt, program, words), file),
+    match command_line(rt.alloc(), words) {
+        Ok(Some(line)) => run_line(threads, rt, program, words, line, file),
+        Ok(None) => (unasked(rt, program, words), file),
         Err(NoMemory) => (starved(rt, program), file),
     }
 }
@@ -288,13 +324,27 @@ pub fn run_by<R: Threads + Wait + Sync, D: Disk + Described + Drop + Send>(
 fn tell_before(rt: &HostRuntime, program: &str, outcome: Outcome, hint: &str, cause: Cause<'_>) {
     let names = Names {
         program,
-        cluster: "",
-        script: "",
-        schedule: "",
-        unread: "/dev/null",
-        device: STORE_FILE,
+        ..NO_NAMES
     };
     tell_hint(rt, outcome, names, hint, cause);
+}
+
+/// A call whose words ask for nothing, which is told with what is wrong with them.
+fn unasked(rt: HostRuntime, program: &str, words: &[String]) -> Call
+    ensures { result.outcome ≡ Outcome.Usage }
+{
+    let names = Names {
+        program,
+        ..NO_NAMES
+    };
+    tell_hint(
+        &rt,
+        Outcome::Usage,
+        names,
+        fault_among(words),
+        Cause::Unknown,
+    );
+    stopped(rt, Outcome::Usage)
 }
 
 /// A call that found no memory for its words or for a device, which is told.
@@ -332,7 +382,26 @@ fn run_held<R: Threads + Wait + Sync>(threads: &R, rt: HostRuntime) -> Outcome
     outcome
 }
 
-/// The same by the words of the command line. Where the words ask for no file the store's is not opened.
+/// What it comes to by these words, where a file is its mode's own. Where the words ask for none it is not opened.
+fn run_asked<R: Threads + Wait + Sync>(
+    threads: &R,
+    rt: HostRuntime,
+    program: &str,
+    words: &[String],
+) -> Outcome
+    ensures { IsOfProgram ⟦<FileDisk<'static, HostRuntime> as Disk>⟧.view result }
+{
+    match command_line(rt.alloc(), words) {
+        Ok(Some(line)) => {
+            let file = FileDisk::new(&rt, line.mode.device().file);
+            run_line(threads, rt, program, words, line, file).0.outcome
+        }
+        Ok(None) => unasked(rt, program, words).outcome,
+        Err(NoMemory) => starved(rt, program).outcome,
+    }
+}
+
+/// The same by the words of the command line.
 fn run_words<R: Threads + Wait + Sync>(threads: &R, rt: HostRuntime) -> Outcome
     ensures { IsOfProgram ⟦<FileDisk<'static, HostRuntime> as Disk>⟧.view result }
 {
@@ -343,9 +412,7 @@ fn run_words<R: Threads + Wait + Sync>(threads: &R, rt: HostRuntime) -> Outcome
                 Some((first, rest)) => (first.as_str(), rest),
                 None => (PROGRAM, all),
             };
-            run_by(threads, rt, program, words, FileDisk::new(&rt, STORE_FILE))
-                .0
-                .outcome
+            run_asked(threads, rt, program, words)
         }
         Err(error) if error.kind() == io::ErrorKind::OutOfMemory => {
             tell_before(&rt, PROGRAM, Outcome::Memory, "", Cause::Unknown);

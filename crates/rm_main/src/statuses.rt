@@ -23,3 +23,19 @@ pub fn status_of(outcome: Outcome) -> u8
         Outcome::DeviceSmall { .. } => 12,
     }
 }
+
+/// What each status says, from 0 on, of those that a mode comes to.
+pub(crate) const STATUS_MEANINGS: [&str; 12] = [
+    "done",
+    "words",
+    "a file not read",
+    "the page not written",
+    "cluster file refused",
+    "script refused",
+    "schedule refused",
+    "the store's device failed",
+    "store damaged",
+    "store full",
+    "epochs or stamps spent",
+    "out of memory",
+];

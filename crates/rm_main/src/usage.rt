@@ -119,7 +119,7 @@ fn frame_length(op: &Op) -> u64
             .saturating_add(length_of(&submission.queue))
             .saturating_add(length_of(&submission.name))
             .saturating_add(length_of(&submission.modify))
-            .saturating_add(33),
+            .saturating_add(34),
         Op::Attempt { node, .. } => length_of(node).saturating_add(31),
         Op::AttemptEnd { text, .. } => length_of(text).saturating_add(20),
         Op::AppEnd { text, .. } => length_of(text).saturating_add(16),

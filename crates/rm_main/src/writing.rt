@@ -5,9 +5,9 @@ ghost use Rattle.rm_main.specs.Runs.{IsWritten, Writes};
 ghost use Rattle.rm_main.specs.Shown.{shown_in};
 ghost use Rattle.rm_main.specs.Ways.{IsOfWriting, outcome_of, outcome_of_stop};
 
+use rm_lives::Stop;
 use rm_outside::{Sink, Written, write_all};
 use rm_page::{page, store_page};
-use rm_plain::Stop;
 use rm_soak::soak_page;
 use rm_types::{Entry, Items, NoMemory, Op, Outcome};
 use std::alloc::Global;

@@ -1,13 +1,19 @@
-use Rattle.std.proofs.Common.{refl, inl, sym, ◌∙◌}
+use Rattle.std.proofs.Common.{Some, None, refl, inl, inr, sym}
 use Rattle.std.specs.Prelude.{map, string_bytes}
-use Rattle.rm_main.proofs.Calls.{in_memory, none_told, over_file}
+use Rattle.rm_words.specs.Words.{asked}
+use Rattle.rm_main.proofs.Calls.{by_words, none_told, none_told_of_words}
 use Rattle.rm_main.proofs.program.run_by.Goals as goal
 
-pub returns-in-Ok-true-clause-came : goal.returns-in-Ok-true-clause-came
-returns-in-Ok-true-clause-came g c = over_file g.D.Disk.view (map string_bytes c.args.words.now) _ _ _ (sym c.in-Ok-true.field-0-test ∙ c.in-Ok-true.ensures) c.run_over.ensures.ran
+pub returns-in-Ok-Some-clause-came : goal.returns-in-Ok-Some-clause-came
+returns-in-Ok-Some-clause-came g c =
+    let line = c.in-Ok-Some.line in
+    by_words g.D.Disk.view (map string_bytes c.args.words.now) (Some (asked line.mode)) line.is_in_file _ _ _ (rw c.in-Ok-Some.field-0-is at c.in-Ok-Some.ensures.some) (sym (rw c.in-Ok-Some.field-0-is at c.in-Ok-Some.ensures.file)) c.run_line.ensures.came
 
-pub returns-in-Ok-false-clause-came : goal.returns-in-Ok-false-clause-came
-returns-in-Ok-false-clause-came g c = in_memory g.D.Disk.view (map string_bytes c.args.words.now) _ _ (sym c.in-Ok-false.field-0-test ∙ c.in-Ok-false.ensures) c.run_in_memory.ensures.ran
+pub returns-in-Ok-None-clause-came : goal.returns-in-Ok-None-clause-came
+returns-in-Ok-None-clause-came g c = by_words g.D.Disk.view (map string_bytes c.args.words.now) None _ _ _ _ (rw c.in-Ok-None.field-0-is at c.in-Ok-None.ensures.none) refl (inr (refl, c.unasked.ensures))
+
+pub returns-in-Ok-None-clause-faults : goal.returns-in-Ok-None-clause-faults
+returns-in-Ok-None-clause-faults g c = none_told_of_words _ _ _ c.unasked.ensures
 
 pub returns-in-Err-clause-came : goal.returns-in-Err-clause-came
 returns-in-Err-clause-came g c = record { either = inl (c.starved.ensures, refl) }
