@@ -1,12 +1,25 @@
 //! What a picture has: a row for each node, and no more than a screen can show.
 use crate::helpers::{append, has_text, repeated, wants_in};
-use crate::pages::RUN;
+use crate::pages::{KEPT, RUN};
 use rm_page_reader::PageError;
 use rm_report::chart::draw;
 use std::process::Abort;
 
 /// How many containers a large page grants, on two nodes.
 const MANY: usize = 3_000;
+
+/// How often a text stands in bytes.
+fn count_of(bytes: &[u8], text: &[u8]) -> usize {
+    let mut count: usize = 0;
+    for place in 0..bytes.len() {
+        if let Some(rest) = bytes.get(place..) {
+            if rest.starts_with(text) {
+                count = count.saturating_add(1);
+            }
+        }
+    }
+    count
+}
 
 /// A page that grants these containers, one after another.
 fn page_of_many<R: Abort + AllocGlobal>(rt: &R) -> Vec<u8> {
@@ -43,6 +56,22 @@ fn draws_a_run(rt: HostRuntime) {
     ] {
         has_text(&rt, bytes, text);
     }
+}
+
+#[test]
+fn draws_what_is_handed_over(rt: HostRuntime) {
+    let picture = draw(rt.alloc(), KEPT.as_bytes()).expect(&rt, "a page");
+    let bytes = picture.as_slice();
+    has_text(&rt, bytes, ">to attempt 2<");
+    has_text(&rt, bytes, ">handed to a later attempt<");
+    let ticks = count_of(bytes, b"stroke=\"#6a1b9a\" stroke-width=\"3\"");
+    wants_in(&rt, "two containers and the legend", ticks == 3);
+    let other = draw(rt.alloc(), RUN.as_bytes()).expect(&rt, "a page");
+    wants_in(
+        &rt,
+        "no other picture has it",
+        count_of(other.as_slice(), b"attempt 2") == 0,
+    );
 }
 
 #[test]

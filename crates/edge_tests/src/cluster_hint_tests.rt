@@ -34,7 +34,7 @@ const FILES: &[(&str, &str)] = &[
     ("[]", "2: expected the file: an object, found []"),
     (
         "{\"max_\\u001battempts\": 3}",
-        "2: expected the file: an object, with no key but `max_attempts`, `max_completed`, `max_apps`, `wait_ms`, `acl_enable`, `admin_acl`, `max_memory_mb`, `max_vcores`, `groups` and `queues`, found `max_\\x1battempts`",
+        "2: expected the file: an object, with no key but `max_attempts`, `max_completed`, `max_apps`, `wait_ms`, `acl_enable`, `admin_acl`, `max_memory_mb`, `max_vcores`, `groups`, `queues` and `recover_ended_containers`, found `max_\\x1battempts`",
     ),
     (
         "{\"max_attempts\": 0}",
@@ -83,6 +83,10 @@ const FILES: &[(&str, &str)] = &[
     (
         "{\"groups\": {\"ann\": [\"staff\", \"a/b\"]}}",
         "11: expected groups: groups of 1 to 64 letters, digits, `_`, `.` and `-` for the user `ann`, found \"a/b\"",
+    ),
+    (
+        "{\"recover_ended_containers\": null}",
+        "13: expected recover_ended_containers: true or false, found null",
     ),
     (
         "{\"queues\": {}}",

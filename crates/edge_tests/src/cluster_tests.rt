@@ -85,7 +85,7 @@ fn each_number_has_its_range(rt: HostRuntime) {
 }
 
 /// Files, and the places of the rules that they break.
-const FILES: [(&str, u32); 46] = [
+const FILES: [(&str, u32); 50] = [
     ("", 1),
     ("{", 1),
     ("{}{}", 1),
@@ -143,15 +143,48 @@ const FILES: [(&str, u32); 46] = [
         "{\"queues\":[{\"name\":\"root\"},{\"name\":\"root.A\"}]}",
         12,
     ),
+    ("{\"recover_ended_containers\":null}", 13),
+    ("{\"recover_ended_containers\":\"true\"}", 13),
+    ("{\"recover_ended_containers\":1}", 13),
     // Of several rules that are broken the first counts, wherever its key stands.
     (
         "{\"queues\":[],\"groups\":[],\"max_vcores\":0,\"wait_ms\":-1}",
         6,
     ),
     ("{\"acl_enable\":true,\"max_attempts\":0}", 3),
+    ("{\"recover_ended_containers\":0,\"queues\":[]}", 12),
     ("{\"wait_ms\":-1,\"max_apps\":0}", 5),
     ("{\"max_attempts\":0,\"attempts\":1}", 2),
 ];
+
+/// Files, and whether what ended while no manager stood is recovered by them. Of a key that stands twice the last value counts.
+const RECOVERING: [(&str, bool); 5] = [
+    ("{}", false),
+    ("{\"recover_ended_containers\":false}", false),
+    ("{\"recover_ended_containers\":true}", true),
+    (
+        "{\"recover_ended_containers\":true,\"recover_ended_containers\":false}",
+        false,
+    ),
+    (
+        "{\"recover_ended_containers\":null,\"recover_ended_containers\":true}",
+        true,
+    ),
+];
+
+/// Sees that the file sets that so.
+fn see_recovering<R: Abort + AllocGlobal>(rt: &R, file: &str, is_set: bool) {
+    let settings = settings_of(rt, file.as_bytes());
+    wants_in(rt, file, settings.recover_ended_containers == is_set);
+    wants_in(rt, file, !settings.acl_enable);
+}
+
+#[test]
+fn ended_containers_are_recovered_where_the_key_is_true(rt: HostRuntime) {
+    for (file, is_set) in RECOVERING {
+        see_recovering(&rt, file, is_set);
+    }
+}
 
 /// Sees that the file is refused at this place.
 fn see_place<R: Abort + AllocGlobal>(rt: &R, file: &str, place: u32) {

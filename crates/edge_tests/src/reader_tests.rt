@@ -1,11 +1,11 @@
 //! Which bytes are pages, and at which line others are refused.
 use crate::helpers::{append, repeated, wants_in};
-use crate::pages::RUN;
+use crate::pages::{KEPT, RUN};
 use rm_page_reader::{Page, PageError, SoakLine, law_one_reading, read_page};
 use std::process::Abort;
 
 /// Pages, with the number of their lines that tell an entry.
-const PAGES: [(&str, usize); 7] = [
+const PAGES: [(&str, usize); 12] = [
     ("", 0),
     (RUN, 29),
     ("settled\nsettled\nmoves hede\n", 2),
@@ -22,10 +22,27 @@ const PAGES: [(&str, usize); 7] = [
         "served master appattempt_1_0001_000001 finish a -> ok -> ALREADY\n",
         1,
     ),
+    (KEPT, 26),
+    (
+        "kept app application_1_0001 user=a queue=q name=n memory=1 vcores=1 attempts=0 keep=yes\n",
+        1,
+    ),
+    (
+        "kept app application_1_0001 user=a queue=q name=n memory=1 vcores=1 attempts=0 keep=yes modify=a  keep=yes\n",
+        1,
+    ),
+    (
+        "kept app application_1_0001 user=a queue=q name=n memory=1 vcores=1 attempts=0 modify=keep=yes\n",
+        1,
+    ),
+    (
+        "served master appattempt_1_0001_000002 register -> registered kept=[]\n",
+        1,
+    ),
 ];
 
 /// Texts that are no pages, with the first line that is none of a page.
-const OTHERS: [(&str, u32); 24] = [
+const OTHERS: [(&str, u32); 30] = [
     ("\n", 1),
     ("hello\n", 1),
     ("settled", 1),
@@ -54,6 +71,30 @@ const OTHERS: [(&str, u32); 24] = [
         1,
     ),
     ("served client u new\n", 1),
+    (
+        "kept app application_1_0001 user=a queue=q name=n memory=1 vcores=1 attempts=0 keep=no\n",
+        1,
+    ),
+    (
+        "kept app application_1_0001 user=a queue=q name=n memory=1 vcores=1 attempts=0 keep=yes keep=yes\n",
+        1,
+    ),
+    (
+        "kept app application_1_0001 user=a queue=q name=n memory=1 vcores=1 attempts=0 keep=yes \n",
+        1,
+    ),
+    (
+        "served master appattempt_1_0001_000002 register -> registered kept=\n",
+        1,
+    ),
+    (
+        "served master appattempt_1_0001_000002 register -> registered kept=[container_1_0001_01_000002]\n",
+        1,
+    ),
+    (
+        "served master appattempt_1_0001_000002 register -> registered kept=[] turn=1\n",
+        1,
+    ),
     ("served settle -> ok\n", 1),
     ("settled\nmoves oe\n", 2),
     ("settled\nmoves d\n", 2),

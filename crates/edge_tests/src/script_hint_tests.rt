@@ -112,7 +112,7 @@ const LINES: &[(&str, &str)] = &[
     ),
     (
         "client alice old",
-        "a client's message is `client USER new`, `client USER submit APP queue=QUEUE name=NAME memory=MB vcores=CORES attempts=N[ modify=ACL]`, `client USER report APP` or `client USER kill APP`",
+        "a client's message is `client USER new`, `client USER submit APP queue=QUEUE name=NAME memory=MB vcores=CORES attempts=N[ keep=yes][ modify=ACL]`, `client USER report APP` or `client USER kill APP`",
     ),
     (
         "client al:ice new",
@@ -124,19 +124,27 @@ const LINES: &[(&str, &str)] = &[
     ),
     (
         "client alice submit application_1_0001 queue=Q name=n memory=1 vcores=1 attempts=0",
-        "client USER submit APP queue=QUEUE name=NAME memory=MB vcores=CORES attempts=N[ modify=ACL]: QUEUE is 1 to 128 lower-case letters, digits, `_`, `-` and `.`, found Q",
+        "client USER submit APP queue=QUEUE name=NAME memory=MB vcores=CORES attempts=N[ keep=yes][ modify=ACL]: QUEUE is 1 to 128 lower-case letters, digits, `_`, `-` and `.`, found Q",
     ),
     (
         "client alice submit application_1_0001 queue=q name=n memory=0 vcores=1 attempts=0",
-        "client USER submit APP queue=QUEUE name=NAME memory=MB vcores=CORES attempts=N[ modify=ACL]: MB is 1 to 16777216, found 0",
+        "client USER submit APP queue=QUEUE name=NAME memory=MB vcores=CORES attempts=N[ keep=yes][ modify=ACL]: MB is 1 to 16777216, found 0",
     ),
     (
         "client alice submit application_1_0001 queue=q name=n memory=1 vcores=1 attempts=101",
-        "client USER submit APP queue=QUEUE name=NAME memory=MB vcores=CORES attempts=N[ modify=ACL]: N is 0 to 100, found 101",
+        "client USER submit APP queue=QUEUE name=NAME memory=MB vcores=CORES attempts=N[ keep=yes][ modify=ACL]: N is 0 to 100, found 101",
     ),
     (
         "client alice submit application_1_0001 queue=q name=n memory=1 vcores=1 attempts=0 modify=",
-        "client USER submit APP queue=QUEUE name=NAME memory=MB vcores=CORES attempts=N[ modify=ACL]: ACL is 1 to 512 printable bytes, found nothing",
+        "client USER submit APP queue=QUEUE name=NAME memory=MB vcores=CORES attempts=N[ keep=yes][ modify=ACL]: ACL is 1 to 512 printable bytes, found nothing",
+    ),
+    (
+        "client alice submit application_1_0001 queue=q name=n memory=1 vcores=1 attempts=0 keep=no",
+        "the line is `client USER submit APP queue=QUEUE name=NAME memory=MB vcores=CORES attempts=N[ keep=yes][ modify=ACL]`, with one space between words",
+    ),
+    (
+        "client alice submit application_1_0001 queue=q name=n memory=1 vcores=1 attempts=0 keep=yes modify=",
+        "client USER submit APP queue=QUEUE name=NAME memory=MB vcores=CORES attempts=N[ keep=yes][ modify=ACL]: ACL is 1 to 512 printable bytes, found nothing",
     ),
     (
         "master appattempt_1_0001_000001 end",

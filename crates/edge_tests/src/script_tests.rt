@@ -3,8 +3,8 @@
 use crate::helpers::{append, bytes_of, comment, wants, wants_in};
 use rm_script::{ScriptError, read_script};
 use rm_types::{
-    AppId, Ask, AttemptId, ClockAsk, Close, ContainerId, Held, Life, MasterAsk, Message, NodeAsk,
-    Resource, Segment,
+    AppId, Ask, AttemptId, ClientAsk, ClockAsk, Close, ContainerId, Held, Life, MasterAsk, Message,
+    NodeAsk, Resource, Segment,
 };
 use std::alloc::Global;
 use std::process::Abort;
@@ -122,6 +122,9 @@ client 9_.-Z new\n\
 client alice submit application_1_0001 queue=q name=A_b-1.c memory=16777216 vcores=256 attempts=100\n\
 client alice submit application_1_0001 queue=q name=n memory=1 vcores=1 attempts=0 modify= \n\
 client alice submit application_1_0001 queue=q name=n memory=1 vcores=1 attempts=0 modify=bob,carol  ops modify=*\n\
+client alice submit application_1_0001 queue=q name=n memory=1 vcores=1 attempts=0 keep=yes\n\
+client alice submit application_1_0001 queue=q name=n memory=1 vcores=1 attempts=0 keep=yes modify=bob  ops keep=yes\n\
+client alice submit application_1_0001 queue=q name=n memory=1 vcores=1 attempts=0 modify=bob keep=yes\n\
 client bob report application_9223372036854775807_2147483647\n\
 client bob kill application_7_10000\n\
 master appattempt_1_0001_000001 register\n\
@@ -176,6 +179,15 @@ client alice submit application_1_0001 queue=Q name=n memory=1 vcores=1 attempts
 client alice submit application_1_0001 name=n queue=q memory=1 vcores=1 attempts=0\n\
 client alice submit application_1_0001 queue=q name=n memory=1 vcores=1 attempts=0 modify=\n\
 client alice submit application_1_0001 queue=q name=n memory=1 vcores=1 attempts=0 *\n\
+client alice submit application_1_0001 queue=q name=n memory=1 vcores=1 attempts=0 keep=no\n\
+client alice submit application_1_0001 queue=q name=n memory=1 vcores=1 attempts=0 keep=\n\
+client alice submit application_1_0001 queue=q name=n memory=1 vcores=1 attempts=0 keep=yes \n\
+client alice submit application_1_0001 queue=q name=n memory=1 vcores=1 attempts=0 keep=yes keep=yes\n\
+client alice submit application_1_0001 queue=q name=n memory=1 vcores=1 attempts=0  keep=yes\n\
+client alice submit application_1_0001 queue=q name=n memory=1 vcores=1 keep=yes attempts=0\n\
+client alice submit application_1_0001 keep=yes queue=q name=n memory=1 vcores=1 attempts=0\n\
+client alice submit application_1_0001 queue=q name=n memory=1 vcores=1 attempts=0 keep=yes modify=\n\
+client alice report application_1_0001 keep=yes\n\
 client alice submit application_1_0001 queue=q name=n memory=1 vcores=1 attempts=0 \n\
 master\n\
 master appattempt_1_0001_000001\n\
@@ -238,6 +250,59 @@ fn see_lines<R: Abort + AllocGlobal>(rt: &R, lines: &[u8], want: u32) {
 fn messages(rt: HostRuntime) {
     see_lines(&rt, MESSAGES, 0);
     see_lines(&rt, NO_MESSAGES, 2);
+}
+
+/// What stands behind a submission's fields, whether it keeps its containers by that, and who else may modify it.
+const SUBMITTED: [(&str, bool, &str); 5] = [
+    ("", false, ""),
+    (" keep=yes", true, ""),
+    (" modify=bob keep=yes", false, "bob keep=yes"),
+    (" keep=yes modify=bob  ops", true, "bob  ops"),
+    (" keep=yes modify=keep=yes", true, "keep=yes"),
+];
+
+/// Whether the message submits an application that keeps its containers or doesn't, and that these may modify.
+fn submits(message: &Message, keep: bool, modify: &str) -> bool {
+    match message {
+        Message::Client(_, ClientAsk::Submit(_, submission)) => {
+            submission.keep == keep && submission.modify.bytes() == modify.as_bytes()
+        }
+        _ => false,
+    }
+}
+
+/// Whether a life's one segment has one message, which submits so.
+fn submits_alone(lives: &[Life], keep: bool, modify: &str) -> bool {
+    match lives {
+        [life] => match life.segments.as_slice() {
+            [segment] => {
+                matches!(segment.messages.as_slice(), [message] if submits(message, keep, modify))
+            }
+            _ => false,
+        },
+        _ => false,
+    }
+}
+
+fn see_submitted<R: Abort + AllocGlobal>(rt: &R, behind: &str, keep: bool, modify: &str) {
+    let mut line = bytes_of(
+        rt,
+        b"client alice submit application_1_0001 queue=q name=n memory=1 vcores=1 attempts=0",
+    );
+    append(rt, &mut line, behind.as_bytes());
+    let script = read_script(rt.alloc(), &with_line(rt, &line)).expect(rt, behind);
+    wants_in(
+        rt,
+        behind,
+        submits_alone(script.lives.as_slice(), keep, modify),
+    );
+}
+
+#[test]
+fn submissions(rt: HostRuntime) {
+    for (behind, keep, modify) in SUBMITTED {
+        see_submitted(&rt, behind, keep, modify);
+    }
 }
 
 /// A script in which all that isn't a client speaks, and some of it is lost.

@@ -11,20 +11,24 @@ use std::process::Abort;
 /// How many bytes a store has.
 const SIZE: usize = STORE_SIZE as usize;
 
-/// The generation's record, and those of the two operations: the first 89 bytes of the example.
+/// The generation's record, and those of the two operations: the first 90 bytes of the example.
 const GENERATION: &[u8] = b"\x01\0\0\0\x08\0\0\0\0\0\0\0\x01";
 
 const EPOCH: &[u8] = b"\x01\0\0\0\x0d\x01\0\0\0\x01\0\0\x01\x48\x80\x43\x76\x0f";
 
 const APP: &[u8] =
+    b"\x01\0\0\0\x36\x07\0\0\x01\x48\x80\x43\x76\x0f\0\0\0\x01\0\x05alice\0\x0croot.default\0\x03job\0\0\x04\0\0\0\0\x01\0\0\0\0\0\0\0";
+
+/// The App's record as it was before there was a choice to keep containers.
+const OLDER_APP: &[u8] =
     b"\x01\0\0\0\x35\x02\0\0\x01\x48\x80\x43\x76\x0f\0\0\0\x01\0\x05alice\0\x0croot.default\0\x03job\0\0\x04\0\0\0\0\x01\0\0\0\0\0\0";
 
 /// What a check tells of it. The sum is that of the two lines of `store`, by `sha256sum`.
 const WHOLE: &str = "form two-areas area=first generation=1
 walked gates=4 frames=2
 jobs all=1 submitted=1 accepted=0 finished=0 failed=0 killed=0
-used bytes=89 of=2097152 free=2097063
-fits shipped=13980 longest=1432
+used bytes=90 of=2097152 free=2097062
+fits shipped=13887 longest=1431
 sha256 d7e4af0460b00f623c38a281d7bde427652a90da339dce180751bdb8f2cc096c
 whole
 ";
@@ -58,11 +62,11 @@ const DAMAGED: &[(&[&[u8]], usize, u8, &str, u8, &str)] = &[
     ),
     (
         &[GENERATION, EPOCH, APP, APP],
-        89,
+        90,
         1,
-        "stray operation=2 at=89\n",
+        "stray operation=2 at=90\n",
         8,
-        "form two-areas area=first generation=1\nsalvaged operations=2 written=2\nstopped the operation at byte 89 doesn't fit those before it\n",
+        "form two-areas area=first generation=1\nsalvaged operations=2 written=2\nstopped the operation at byte 90 doesn't fit those before it\n",
     ),
     (
         &[EPOCH, APP],
@@ -70,7 +74,7 @@ const DAMAGED: &[(&[&[u8]], usize, u8, &str, u8, &str)] = &[
         1,
         "whole\n",
         0,
-        "form one-journal\nsalvaged operations=2 written=2\nstopped the gate at byte 76 is closed\n",
+        "form one-journal\nsalvaged operations=2 written=2\nstopped the gate at byte 77 is closed\n",
     ),
 ];
 
@@ -172,12 +176,39 @@ fn damage_is_told_and_its_front_salvaged(rt: HostRuntime) {
     }
 }
 
+/// Sees that the new disk begins with the bytes of the example.
+fn begins<R: Abort + AllocGlobal>(rt: &R, disk: &mut MemDisk) {
+    let mut bytes = bytes_of(rt, &[], 91);
+    assert!(rt; bytes.as_slice().len() as u64 <= disk.size());
+    disk.read(0, bytes.as_mut_slice()).expect(rt, "a read");
+    let wanted = bytes_of(rt, &[GENERATION, EPOCH, APP], 91);
+    assert!(rt; bytes.as_slice() == wanted.as_slice());
+}
+
 #[test]
 fn an_old_store_is_converted(rt: HostRuntime) {
-    let bytes = bytes_of(&rt, &[EPOCH, APP], SIZE);
+    for app in [APP, OLDER_APP] {
+        let bytes = bytes_of(&rt, &[EPOCH, app], SIZE);
+        let mut disk = new_disk(&rt);
+        let words = ["convert", "old.store", "new.store"];
+        tells(&rt, &words, bytes, &mut disk, 0, "converted operations=2\n");
+        begins(&rt, &mut disk);
+        holds(&rt, &mut disk, WHOLE);
+    }
+}
+
+// The older App keeps the same, so that all that is told of it is the same.
+#[test]
+fn an_older_store_is_read_and_written_as_one_of_now(rt: HostRuntime) {
+    let parts = [GENERATION, EPOCH, OLDER_APP];
+    let bytes = bytes_of(&rt, &parts, SIZE);
+    let again = bytes_of(&rt, &parts, SIZE);
     let mut disk = new_disk(&rt);
-    let words = ["convert", "old.store", "new.store"];
-    tells(&rt, &words, bytes, &mut disk, 0, "converted operations=2\n");
+    tells(&rt, &["check", "old.store"], bytes, &mut disk, 0, WHOLE);
+    let words = ["salvage", "old.store", "new.store"];
+    let want = "salvaged operations=2 written=2\nstopped the gate at byte 89 is closed\n";
+    tells(&rt, &words, again, &mut disk, 0, want);
+    begins(&rt, &mut disk);
     holds(&rt, &mut disk, WHOLE);
 }
 

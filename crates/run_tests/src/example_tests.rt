@@ -314,14 +314,25 @@ settle
 
 /// An example, and lines of its page in their order.
 #[derive(Clone, Copy)]
-struct Example<'a> {
-    cluster: &'a str,
-    script: &'a str,
+pub(crate) struct Example<'a> {
+    pub cluster: &'a str,
+    pub script: &'a str,
     lines: &'a [&'a str],
 }
 
+pub(crate) const EXAMPLES: [Example<'static>; 8] = [
+    RIGHTS,
+    LOST_NODE,
+    CRASH_POINTS,
+    KILL_AND_CRASH,
+    RETRIES,
+    TWO_QUEUES,
+    EXPIRED_MASTER,
+    ROLLING_RESTART,
+];
+
 /// Checks that a page has these lines, one behind the other.
-fn tells<R: Abort>(rt: &R, page: &str, lines: &[&str]) {
+pub(crate) fn tells<R: Abort>(rt: &R, page: &str, lines: &[&str]) {
     let mut rest = page;
     for line in lines {
         let (_, behind) = rest.split_once(*line).expect(rt, line);
@@ -332,17 +343,7 @@ fn tells<R: Abort>(rt: &R, page: &str, lines: &[&str]) {
 // Each example shows what its comments say.
 #[test]
 fn examples_show_what_they_say(rt: HostRuntime) {
-    let all = [
-        RIGHTS,
-        LOST_NODE,
-        CRASH_POINTS,
-        KILL_AND_CRASH,
-        RETRIES,
-        TWO_QUEUES,
-        EXPIRED_MASTER,
-        ROLLING_RESTART,
-    ];
-    for example in &all {
+    for example in EXAMPLES.as_slice() {
         let parts = [example.script];
         let case = Case {
             cluster: example.cluster,
@@ -358,7 +359,7 @@ const LIST: &str =
     "uuuuuuuuuuuuuuuuuuuuuuuuuuuuuuuuuuuuuuuuuuuuuuuuuuuuuuuuuuuuuuuuuuuuuuuuuuuuuuuuuuuuuuuuuuuuuuuuuuuuuuuuuuuuuuuuuuuuuuuuuuuuuuuuuuuuuuuuuuuuuuuuuuuuuuuuuuuuuuuuuuuuuuuuuuuuuuuuuuuuuuuuuuuuuuuuuuuuuuuuuuuuuuuuuuuuuuuuuuuuuuuuuuuuuuuuuuuuuuuuuuuuuuuuuuuuuuuuuuuuuuuuuuuuuuuuuuuuuuuuuuuuuuuuuuuuuuuuuuuuuuuuuuuuuuuuuuuuuuuuuuuuuuuuuuuuuuuuuuuuuuuuuuuuuuuuuuuuuuuuuuuuuuuuuuuuuuuuuuuuuuuuuuuuuuuuuuuuuuuuuuuuuuuuuuuuuuuuuuuuuuuuuuuuuuuuuuuuuuuuuuuuuuuuuuuuuuuuuuuuuuuuuuuuuuuuuuuuuuuuuuuuuuuuuuuuuuuuuuuuuuuuuuuuuuuu";
 
 // As the script that fills a store, on a device of two areas of a thousand bytes: a generation takes 13, an Epoch 18, and each job
-// 570.
+// 571.
 #[test]
 fn a_full_store_keeps_the_job_that_fitted(rt: HostRuntime) {
     let parts = [
@@ -378,8 +379,8 @@ fn a_full_store_keeps_the_job_that_fitted(rt: HostRuntime) {
         ..plain(&parts)
     };
     let full = Outcome::StoreFull {
-        needed: 571,
-        room: 399,
+        needed: 572,
+        room: 398,
     };
     let left = ends(&rt, &case, full);
     let lines = [

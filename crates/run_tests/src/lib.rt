@@ -19,6 +19,8 @@ mod example_tests;
 #[cfg(test)]
 mod fault_tests;
 #[cfg(test)]
+mod feeding_tests;
+#[cfg(test)]
 mod file_tests;
 #[cfg(test)]
 mod hint_tests;
@@ -35,8 +37,12 @@ mod progress_tests;
 #[cfg(test)]
 mod refusal_tests;
 #[cfg(test)]
+mod restart_tests;
+#[cfg(test)]
 mod schedule_tests;
 #[cfg(test)]
 mod submission_tests;
 #[cfg(test)]
 mod thread_tests;
+#[cfg(test)]
+mod worked_tests;

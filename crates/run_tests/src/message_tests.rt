@@ -137,3 +137,30 @@ fn wrong_words_are_told_the_modes_behind_their_fault(rt: HostRuntime) {
     }
     wants(&rt, lines.all(|line| line.len() <= 100));
 }
+
+/// The page of modes, flags and statuses, but for its last line.
+const PAGE: &[&str] = &[
+    "modes of yewendro:",
+    "  plain CLUSTER SCRIPT             runs the script under the cluster file, and writes its page",
+    "  threads CLUSTER SCRIPT           the same by seven workers in threads of their own",
+    "  replay CLUSTER SCRIPT SCHEDULE   the same by the moves of a schedule",
+    "  soak N                           runs a soak of N applications, 1 to 1000, and writes its line",
+    "  store                            writes what the store keeps",
+    "flags, anywhere among the words:",
+    "  --file    the store is in the file rm.store of this folder, which is made where there is none;",
+    "            without it the store is in memory, and new",
+    "  --moves   for plain, threads and replay: a last line of the page tells the moves",
+    "statuses:",
+    "  0 done   1 words   2 a file not read   3 the page not written   4 cluster file refused",
+    "  5 script refused   6 schedule refused   7 the store's device failed   8 store damaged",
+    "  9 store full   10 epochs or stamps spent   11 out of memory",
+];
+
+#[test]
+fn the_page_of_modes_is_written_from_the_tables(rt: HostRuntime) {
+    let told = text_of(&rt, Outcome::Usage, "`run` is no mode", Cause::Unknown);
+    let mut lines = told.as_str().lines().skip(1);
+    for wanted in PAGE {
+        is_told(&rt, lines.next().unwrap_or(""), wanted);
+    }
+}

@@ -205,7 +205,7 @@ const RIGHTS: &str =
 
 /// The same tree where no rights are checked.
 const UNCHECKED: &str =
-    "{\"admin_acl\":\"boss\",\"groups\":{\"carol\":[\"ops\"]},\"queues\":[{\"name\":\"root\",\"submit\":\"dave\",\"admin\":\" \"},{\"name\":\"root.dev\",\"submit\":\"alice\"},{\"name\":\"root.ops\",\"submit\":\" ops\"}]}";
+    "{\"acl_enable\":false,\"admin_acl\":\"boss\",\"groups\":{\"carol\":[\"ops\"]},\"queues\":[{\"name\":\"root\",\"submit\":\"dave\",\"admin\":\" \"},{\"name\":\"root.dev\",\"submit\":\"alice\"},{\"name\":\"root.ops\",\"submit\":\" ops\"}]}";
 
 /// A cluster file, a user's message, and what becomes of it.
 const ANSWERED: [(&str, &str, &str); 9] = [

@@ -9,7 +9,7 @@ use rm_states::app::AppState;
 use rm_states::attempt::AttemptState;
 use rm_tables::{AppRow, Current, Tables};
 use rm_types::{
-    Ask, Cause, Closing, ContainerId, ContainerState, Items, MasterAsk, Reply, Resource,
+    Ask, Cause, Closing, ClosingOf, ContainerId, ContainerState, Items, MasterAsk, Reply, Resource,
 };
 use std::alloc::Global;
 use std::process::Abort;
@@ -49,7 +49,11 @@ fn row<R: Abort>(rt: &R, alloc: Global) -> AppRow {
         finished: false,
     };
     let mut closings = Items::new(alloc);
-    closings.push(ENDED).expect(rt, "memory");
+    let told = ClosingOf {
+        attempt: ATTEMPT,
+        closing: ENDED,
+    };
+    closings.push(told).expect(rt, "memory");
     AppRow {
         state: AppState::Accepted,
         wish: false,

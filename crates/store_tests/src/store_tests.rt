@@ -29,9 +29,25 @@ const EPOCH_AGAIN: [u8; 19] = [
     1, 0, 0, 0, 13, 1, 0, 0, 0, 1, 0, 0, 1, 72, 128, 67, 118, 15, 0,
 ];
 
-const APP: [u8; 47] = [
+const APP: [u8; 48] = [
+    7, 0, 0, 1, 72, 128, 67, 118, 15, 0, 0, 0, 1, 0, 1, b'u', 0, 12, b'r', b'o', b'o', b't', b'.',
+    b'd', b'e', b'f', b'a', b'u', b'l', b't', 0, 1, b'j', 0, 0, 4, 0, 0, 0, 0, 1, 0, 0, 0, 0, 0, 0,
+    0,
+];
+
+/// The same application as it was kept before there was a choice to keep containers.
+const OLDER_APP: [u8; 47] = [
     2, 0, 0, 1, 72, 128, 67, 118, 15, 0, 0, 0, 1, 0, 1, b'u', 0, 12, b'r', b'o', b'o', b't', b'.',
     b'd', b'e', b'f', b'a', b'u', b'l', b't', 0, 1, b'j', 0, 0, 4, 0, 0, 0, 0, 1, 0, 0, 0, 0, 0, 0,
+];
+
+/// Another kind byte, and a choice that is none.
+const NO_KIND: [u8; 13] = [8, 0, 0, 1, 72, 128, 67, 118, 15, 0, 0, 0, 1];
+
+const NO_CHOICE: [u8; 48] = [
+    7, 0, 0, 1, 72, 128, 67, 118, 15, 0, 0, 0, 1, 0, 1, b'u', 0, 12, b'r', b'o', b'o', b't', b'.',
+    b'd', b'e', b'f', b'a', b'u', b'l', b't', 0, 1, b'j', 0, 0, 4, 0, 0, 0, 0, 1, 0, 0, 0, 0, 2, 0,
+    0,
 ];
 
 const REMOVE: [u8; 13] = [6, 0, 0, 1, 72, 128, 67, 118, 15, 0, 0, 0, 1];
@@ -189,7 +205,7 @@ fn is_refused<R: Abort>(rt: &R, alloc: Global, payload: &[u8], rest: &[u8], want
 }
 
 /// The payload of a record, what stands behind it, and what is told: damage of the area before a payload that is stray or no frame.
-const FAULTS: [(&[u8], &[u8], StoreError); 6] = [
+const FAULTS: [(&[u8], &[u8], StoreError); 8] = [
     (
         &REMOVE,
         &END,
@@ -200,6 +216,8 @@ const FAULTS: [(&[u8], &[u8], StoreError); 6] = [
     ),
     (&REMOVE, &NO_RECORD, StoreError::Damaged { offset: 31 }),
     (&LONGER, &END, StoreError::Damaged { offset: 13 }),
+    (&NO_KIND, &END, StoreError::Damaged { offset: 13 }),
+    (&NO_CHOICE, &END, StoreError::Damaged { offset: 13 }),
     (&LONGER, &NO_RECORD, StoreError::Damaged { offset: 32 }),
     (&EPOCH, &NO_RECORD, StoreError::Damaged { offset: 31 }),
     (
@@ -285,15 +303,15 @@ fn see_outcome<R: Abort>(rt: &R, alloc: Global, size: usize, wanted: Result<(), 
     assert!(rt; outcome(alloc, disk) == wanted, "{size}");
 }
 
-// Each area of 83 bytes has 52 behind a generation and the Epoch, and the App needs 53.
+// Each area of 84 bytes has 53 behind a generation and the Epoch, and the App needs 54.
 #[test]
 fn an_operation_needs_room_for_the_next_gate(rt: HostRuntime) {
     let full = StoreError::Full {
-        needed: 53,
-        room: 52,
+        needed: 54,
+        room: 53,
     };
-    see_outcome(&rt, rt.alloc(), 167, Err(full));
-    see_outcome(&rt, rt.alloc(), 168, Ok(()));
+    see_outcome(&rt, rt.alloc(), 169, Err(full));
+    see_outcome(&rt, rt.alloc(), 170, Ok(()));
 }
 
 /// The Epochs of three lives.
@@ -330,4 +348,69 @@ fn an_area_is_written_anew_where_the_current_one_is_full(rt: HostRuntime) {
     read(&rt, &mut disk, 64, &mut second);
     wants(&rt, second == [1, 0, 0, 0, 8, 0, 0, 0, 0, 0, 0, 0, 2]);
     wants(&rt, found(rt.alloc(), disk) == Ok((2, 3, 3, 0)));
+}
+
+/// The parts of the first area of an older store: a generation, and the records of an Epoch and of an App as it was kept before there
+/// was a choice to keep containers.
+const OLDER: [&[u8]; 4] = [
+    &GENERATION,
+    &[1, 0, 0, 0, 13, 1, 0, 0, 0, 1, 0, 0, 1, 72, 128, 67, 118, 15],
+    &[1, 0, 0, 0, 47],
+    &OLDER_APP,
+];
+
+/// A disk of this size whose first area begins with these parts, with zeros behind them.
+fn holding<R: Abort>(rt: &R, alloc: Global, parts: &[&[u8]], size: usize) -> Fuse<MemDisk> {
+    let mut bytes = Vec::new(alloc);
+    for part in parts {
+        put(rt, &mut bytes, part);
+    }
+    bytes.resize(size, 0).expect(rt, "memory");
+    Fuse::new(alloc, disk_of(rt, alloc, bytes, &[]))
+}
+
+#[test]
+fn an_older_store_is_opened(rt: HostRuntime) {
+    let disk = holding(&rt, rt.alloc(), &OLDER, 4_194_304);
+    wants(
+        &rt,
+        found(rt.alloc(), disk) == Ok((2, 1, 1_410_901_177_871, 1)),
+    );
+}
+
+/// The first area of an older store with the Epochs of two lives before the App.
+const TWO_LIVES: [&[u8]; 7] = [
+    &GENERATION,
+    &[1, 0, 0, 0, 13],
+    &EPOCH_1,
+    &[1, 0, 0, 0, 13],
+    &EPOCH_2,
+    &[1, 0, 0, 0, 47],
+    &OLDER_APP,
+];
+
+/// A disk, once the third life's Epoch was appended to what it holds.
+fn with_third<R: Abort, D: Disk>(rt: &R, alloc: Global, disk: Fuse<D>) -> Fuse<D> {
+    match Store::open(alloc, disk) {
+        Ok((mut store, _tree, _ops)) => {
+            wants(rt, append(alloc, &mut store, &EPOCH_3).is_ok());
+            store.close()
+        }
+        Err(_) => panic!(rt; "the store isn't opened"),
+    }
+}
+
+// An area of 104 bytes has 3 left behind these 101. The second one takes a generation, the second Epoch, the App, which has one byte
+// more now, and the third Epoch: 103.
+#[test]
+fn an_older_app_is_written_anew_as_it_is_now(rt: HostRuntime) {
+    let disk = holding(&rt, rt.alloc(), &TWO_LIVES, 208);
+    let mut disk = with_third(&rt, rt.alloc(), disk);
+    let mut record = [0; 5];
+    read(&rt, &mut disk, 135, &mut record);
+    wants(&rt, record == [1, 0, 0, 0, 48]);
+    let mut app = [0; 48];
+    read(&rt, &mut disk, 140, &mut app);
+    wants(&rt, app == APP);
+    wants(&rt, found(rt.alloc(), disk) == Ok((3, 3, 3, 1)));
 }

@@ -9,8 +9,20 @@ use std::process::Abort;
 const EPOCH: &[u8] = &[1, 0, 0, 1, 2, 1, 2, 3, 4, 5, 6, 7, 8];
 
 const APP: &[u8] = &[
+    7, 1, 2, 3, 4, 5, 6, 7, 8, 10, 11, 12, 13, 0, 1, b'u', 0, 1, b'q', 0, 2, b'n', b'-', 0, 0, 2,
+    0, 0, 0, 0, 3, 0, 0, 0, 4, 0, 0, 1, b'*',
+];
+
+/// The same application as it was kept before there was a choice to keep containers.
+const OLDER_APP: &[u8] = &[
     2, 1, 2, 3, 4, 5, 6, 7, 8, 10, 11, 12, 13, 0, 1, b'u', 0, 1, b'q', 0, 2, b'n', b'-', 0, 0, 2,
     0, 0, 0, 0, 3, 0, 0, 0, 4, 0, 1, b'*',
+];
+
+/// One that keeps containers.
+const KEEPING_APP: &[u8] = &[
+    7, 1, 2, 3, 4, 5, 6, 7, 8, 10, 11, 12, 13, 0, 1, b'u', 0, 1, b'q', 0, 2, b'n', b'-', 0, 0, 2,
+    0, 0, 0, 0, 3, 0, 0, 0, 4, 1, 0, 1, b'*',
 ];
 
 const ATTEMPT: &[u8] = &[
@@ -27,11 +39,15 @@ const APP_END: &[u8] = &[5, 1, 2, 3, 4, 5, 6, 7, 8, 10, 11, 12, 13, 3, 0, 0];
 const REMOVE: &[u8] = &[6, 1, 2, 3, 4, 5, 6, 7, 8, 10, 11, 12, 13];
 
 /// Frames, and how their operations show.
-const FRAMES: [(&[u8], &str); 6] = [
+const FRAMES: [(&[u8], &str); 7] = [
     (EPOCH, "Epoch { next: 258, stamp: 72623859790382856 }"),
     (
         APP,
         "App { id: AppId { stamp: 72623859790382856, number: 168496141 }, submission: Submission { user: Text { shared: Some([117]) }, queue: Text { shared: Some([113]) }, name: Text { shared: Some([110, 45]) }, master: Resource { memory_mb: 512, vcores: 3 }, attempts: 4, keep: false, modify: Text { shared: Some([42]) } } }",
+    ),
+    (
+        KEEPING_APP,
+        "App { id: AppId { stamp: 72623859790382856, number: 168496141 }, submission: Submission { user: Text { shared: Some([117]) }, queue: Text { shared: Some([113]) }, name: Text { shared: Some([110, 45]) }, master: Resource { memory_mb: 512, vcores: 3 }, attempts: 4, keep: true, modify: Text { shared: Some([42]) } } }",
     ),
     (
         ATTEMPT,
@@ -63,11 +79,17 @@ fn shown<R: Abort + AllocGlobal>(rt: &R, op: &Op) -> String {
     format!(in rt.alloc(); "{op:?}").expect(rt, "memory")
 }
 
-/// Sees that the bytes are the frame of an operation that shows so, by itself and before others.
-fn see_frame<R: Abort + AllocGlobal>(rt: &R, encoder: &mut Encoder, frame: &[u8], show: &str) {
-    let bytes = with_more(rt, frame);
-    let (op, count) = decode(rt.alloc(), &bytes).expect(rt, show);
-    wants_in(rt, show, count == frame.len());
+/// Sees that the bytes, with others behind them, are read as an operation that shows so, and that its frame is this.
+fn see_read<R: Abort + AllocGlobal>(
+    rt: &R,
+    encoder: &mut Encoder,
+    bytes: &[u8],
+    frame: &[u8],
+    show: &str,
+) {
+    let more = with_more(rt, bytes);
+    let (op, count) = decode(rt.alloc(), &more).expect(rt, show);
+    wants_in(rt, show, count == bytes.len());
     wants_in(rt, show, shown(rt, &op).as_str() == show);
     let made = encoder.frame(&op).expect(rt, "memory");
     wants_in(rt, show, made == frame);
@@ -77,8 +99,14 @@ fn see_frame<R: Abort + AllocGlobal>(rt: &R, encoder: &mut Encoder, frame: &[u8]
 fn each_kind_has_its_bytes(rt: HostRuntime) {
     let mut encoder = Encoder::new(rt.alloc());
     for (frame, show) in FRAMES.as_slice() {
-        see_frame(&rt, &mut encoder, frame, show);
+        see_read(&rt, &mut encoder, frame, frame, show);
     }
+}
+
+#[test]
+fn an_older_frame_of_an_app_is_read_and_not_written(rt: HostRuntime) {
+    let (frame, show) = FRAMES[1];
+    see_read(&rt, &mut Encoder::new(rt.alloc()), OLDER_APP, frame, show);
 }
 
 /// The place at fault in the bytes, if they begin with no frame; `usize::MAX` where there is no memory.
@@ -112,9 +140,9 @@ fn a_short_frame_is_at_fault_where_its_last_field_begins(rt: HostRuntime) {
 }
 
 /// Frames, a byte at a place in them, and the place at fault with this byte.
-const CHANGES: [(&[u8], usize, u8, Option<usize>); 28] = [
+const CHANGES: [(&[u8], usize, u8, Option<usize>); 31] = [
     (EPOCH, 0, 0, Some(0)),
-    (EPOCH, 0, 7, Some(0)),
+    (EPOCH, 0, 8, Some(0)),
     (EPOCH, 1, 1, Some(1)),
     (EPOCH, 5, 0x80, Some(5)),
     (EPOCH, 5, 0x7f, None),
@@ -131,7 +159,10 @@ const CHANGES: [(&[u8], usize, u8, Option<usize>); 28] = [
     (APP, 30, 0, Some(27)),
     (APP, 34, 0, None),
     (APP, 34, 101, Some(31)),
-    (APP, 37, 0x7f, Some(35)),
+    (APP, 35, 1, None),
+    (APP, 35, 2, Some(35)),
+    (APP, 38, 0x7f, Some(36)),
+    (OLDER_APP, 37, 0x7f, Some(35)),
     (ATTEMPT, 13, 0x80, Some(13)),
     (ATTEMPT, 17, 1, Some(17)),
     (ATTEMPT, 23, 1, Some(21)),
