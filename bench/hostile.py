@@ -16,7 +16,7 @@ PRINTABLE = re.compile(rb"[\n -~]*")
 NUMBERS = [b"0", b"1", b"00", b"-1", b"64", b"1001", b"2147483647", b"2147483648", b"4294967295", b"4294967296",
            b"1000000000000000", b"9223372036854775807", b"18446744073709551616"]
 SCRIPTS = [("cluster.json", name) for name in (
-    "crash-points.txt", "expired-master.txt", "job.txt", "kill-and-crash.txt", "lost-node.txt", "retries.txt",
+    "crash-points.txt", "expired-master.txt", "job.txt", "kill-and-crash.txt", "kept-containers.txt", "lost-node.txt", "retries.txt",
     "rolling-restart.txt", "script.txt")] + [("rights.json", "rights.txt"), ("two-queues.json", "two-queues.txt")]
 
 

@@ -3,6 +3,7 @@
     manager.py measure PROGRAM FOLDER ROUNDS [SETTING..]      tables of these settings, or of all
     manager.py profile PROGRAM FOLDER SETTING                 the functions in which the instructions of each row are spent
     manager.py page PROGRAM FOLDER                            what the log and the page of many lives need
+    manager.py holds PROGRAM FOLDER ROUNDS                    what a hold of the baton costs
 
 bench/manager.sh starts it, and says there what is measured and how.
 
@@ -11,7 +12,7 @@ end, less that of the script up to the end of the step before. Its instructions 
 callgrind cuts into parts where the manager goes on to the next part of a script (MARK). The world below knows what the manager has to
 answer and to decide, from docs/FORMATS.md and docs/MODEL.md; a page that says anything else ends the work.
 """
-import collections, dataclasses, glob, itertools, os, re, shutil, subprocess, sys
+import collections, dataclasses, glob, itertools, os, re, shutil, subprocess, sys, time
 
 MARK = "rm_desk::feeds::Feeds::enter"  # is called at each `start`, `settle` and `crash`
 STAMP = 1410901177871
@@ -658,7 +659,7 @@ if process == 0:
     os.execv(sys.argv[2], sys.argv[2:])
 _, status, usage = os.wait4(process, 0)
 with open(sys.argv[1], "w") as file:
-    print(os.waitstatus_to_exitcode(status), usage.ru_utime + usage.ru_stime, usage.ru_maxrss, file=file)
+    print(os.waitstatus_to_exitcode(status), usage.ru_utime + usage.ru_stime, usage.ru_maxrss, usage.ru_stime, usage.ru_nvcsw, file=file)
 """
 
 
@@ -678,21 +679,28 @@ class Runs:
         with open(self.script, "w") as file:
             file.write(text)
 
-    def words(self):
-        return [self.program, "plain", self.cluster, self.script]
+    def words(self, mode="plain"):
+        return [self.program, mode, self.cluster, self.script]
 
     def run(self):
         """Runs the script: the seconds of the processor that it took, and the most KiB that it had at once."""
+        usage = self.use()
+        return usage.seconds, usage.peak
+
+    def use(self, mode="plain"):
+        """Runs the script, and tells what the run used."""
         told, usage = (os.path.join(self.folder, name) for name in ("told", "usage"))
         with open(self.page, "w") as page, open(told, "w") as errors:
-            words = [sys.executable, "-S", "-c", STARTER, usage, *self.words()]
+            words = [sys.executable, "-S", "-c", STARTER, usage, *self.words(mode)]
+            began = time.monotonic()
             subprocess.run(words, stdin=subprocess.DEVNULL, stdout=page, stderr=errors, check=True)
+            ended = time.monotonic()
         with open(usage) as file:
-            status, seconds, peak = file.read().split()
+            status, seconds, peak, system, sleeps = file.read().split()
         if status != "0":
             with open(told) as errors:
                 sys.exit(f"the program ended with status {status}: {errors.read(300)}")
-        return float(seconds), int(peak)
+        return Usage(float(seconds), int(peak), float(system), int(sleeps), ended - began)
 
     def lines(self):
         """How many lines the last run's page has."""
@@ -710,6 +718,25 @@ class Runs:
         shutil.rmtree(folder)
         return parts
 
+    def whole(self, mode):
+        """What callgrind counts in a whole run."""
+        counted = os.path.join(self.folder, "counted")
+        words = ["valgrind", "--tool=callgrind", f"--callgrind-out-file={counted}", *self.words(mode)]
+        with open(self.page, "w") as page:
+            subprocess.run(words, stdin=subprocess.DEVNULL, stdout=page, stderr=subprocess.DEVNULL, check=True)
+        return part_of(counted)
+
+
+@dataclasses.dataclass
+class Usage:
+    """What a run used: the seconds of the processors, and of these the system's; the most KiB; how often a thread went to sleep; the seconds on the clock."""
+
+    seconds: float
+    peak: int
+    system: float
+    sleeps: int
+    clock: float
+
 
 @dataclasses.dataclass
 class Part:
@@ -719,6 +746,7 @@ class Part:
     spent: collections.Counter
     called: collections.Counter
     own: collections.Counter  # of the functions of this project, with what they call of libraries
+    reached: collections.Counter = dataclasses.field(default_factory=collections.Counter)  # in each function and all that it calls
 
 
 ALLOCATING = re.compile(r"^(_int_)?(malloc|free|realloc|calloc)|^malloc_|^unlink_chunk|^sysmalloc|^systrim|^rattle_(de|re)?alloc")
@@ -745,7 +773,9 @@ def part_of(path):
                 is_call = True
             elif line[0] in "0123456789+-*":
                 many = int(line.split()[1])
-                if not is_call:
+                if is_call:
+                    part.reached[callee] += many
+                else:
                     part.spent[function] += many
                 if function.startswith("rm_") and not (is_call and callee.startswith("rm_")):
                     part.own[function] += many
@@ -949,6 +979,39 @@ def tell_page(runs):
         print(f"| {name} | {whole / lines:,.0f} | {more.called['malloc'] / lines:.2f} | {allocated / whole:.0%} | {copied / whole:.0%} | {most} |")
 
 
+# What callgrind names the calls of the baton, whatever it carries.
+TAKEN, PUT = (re.compile(rf"^rm_baton::baton::Baton.*::{name}\b") for name in ("take", "put"))
+
+
+def of_kind(counter, kind):
+    return sum(many for function, many in counter.items() if kind.search(function))
+
+
+def tell_holds(runs, rounds):
+    """What a hold of the baton costs, by workers over many lives, beside the same on one thread."""
+    write_lives(runs, 40)
+    plain = runs.whole("plain").spent.total()
+    lines = runs.lines()
+    counted = runs.whole("threads")
+    holds, takes = of_kind(counted.called, PUT), of_kind(counted.called, TAKEN)
+    took, put = of_kind(counted.reached, TAKEN), of_kind(counted.reached, PUT)
+    more = counted.spent.total() - plain
+    print("| lines of the page | holds | takes that found the baton out | instructions of a hold, beyond those of `plain` | of a bare take | of a bare put |")
+    print("|---|---|---|---|---|---|")
+    print(f"| {lines:,} | {holds:,} | {takes - holds:,} | {more / holds:,.0f} | {took / takes:,.0f} | {put / holds:,.0f} |\n", flush=True)
+    write_lives(runs, 300)
+    modes = ("plain", "threads")
+    used = [[runs.use(mode) for mode in modes] for _ in range(rounds)]
+    lines = runs.lines()
+    print(f"| {lines:,} lines, {rounds} rounds: least and mean | seconds of the processors | of these the system's | on the clock | threads that went to sleep, for each line |")
+    print("|---|---|---|---|---|")
+    for mode, told in zip(modes, zip(*used)):
+        cells = [[of(usage) for usage in told] for of in (lambda u: u.seconds, lambda u: u.system, lambda u: u.clock)]
+        spans = [f"{min(cell):.2f}, {sum(cell) / len(cell):.2f}" for cell in cells]
+        sleeps = [usage.sleeps / lines for usage in told]
+        print(f"| `{mode}` | {' | '.join(spans)} | {min(sleeps):.3f}, {sum(sleeps) / len(sleeps):.3f} |")
+
+
 def lives_cut(runs, lives):
     """How many lines the page of so many lives has, and what the lives, the page's writing and all of it took."""
     write_lives(runs, lives)
@@ -963,6 +1026,8 @@ def main():
         tell_measures(runs, int(words[0]), words[1:])
     elif mode == "profile":
         tell_profile(runs, *words)
+    elif mode == "holds":
+        tell_holds(runs, int(words[0]))
     else:
         tell_page(runs)
 

@@ -4,6 +4,7 @@
 #   bench/manager.sh [FOLDER [SETTING..]]           what each row takes, in these settings or in all
 #   bench/manager.sh --profile SETTING [FOLDER]     the functions in which the instructions of each row are spent
 #   bench/manager.sh --page [FOLDER]                what the log and the page of many lives need
+#   bench/manager.sh --holds [FOLDER]               what a hold of the baton costs in the mode `threads`, beside the same run by `plain`
 #
 # FOLDER is a folder in which a new one is made and removed again, the current one if none is said. A setting is what stands before: 100
 # or 10,000 applications, going on or remembered, 10 or 5,000 nodes, 100 or 50,000 containers, with 10 applications removed before the
@@ -19,6 +20,10 @@
 # its beginning, the least of ROUNDS in the environment, 3 if nothing is said and none where it is 0. It is told of rows that take two
 # milliseconds or more. What a whole script needs of memory is told by the system. COUNT=no leaves the instructions out, and REPEAT, as 0.01,
 # shortens the rows of cheap messages, to try a change of the scripts.
+#
+# A hold's cost is told over 1,000 applications in the first of many lives, each of which accepts all of them anew. callgrind counts, over 40 lives, the holds, which are the puts of the baton, the takes,
+# and what each of these takes alone; it runs one thread at a time, so that few takes find the baton out. The times, and how often a thread went to sleep and so had to be woken, are those of 300 lives,
+# in ROUNDS rounds by turns with `plain`.
 #
 # It builds crates/yewendro by `rt run`, or takes a built one that PROGRAM in the environment names. It needs python3, and valgrind.
 # The instructions of all settings take some twenty minutes of a processor, mostly for the last rows of 50,000 containers, and the times
@@ -39,6 +44,10 @@ case "${1:-}" in
   --page)
     mode=page
     words=()
+    parent=${2:-$PWD}
+    ;;
+  --holds)
+    mode=holds
     parent=${2:-$PWD}
     ;;
   *)

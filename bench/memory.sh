@@ -4,7 +4,7 @@
 #   bench/memory.sh [PROGRAM [STEP [LAST]]]     crates/yewendro/out/yewendro, every allocation, and all of them, if nothing is said
 #   bench/memory.sh --try NUMBER..              these allocations of the first case alone, by `rt try --fail-alloc NUMBER`
 #
-# The cases are a submission and its reports (the script of the program's stored run, up to its crash), in memory and over a
+# The cases are a submission and its reports (the script of the program's stored run), in memory and over a
 # file; the job of examples/job.txt, whose manager dies amid it, over a file; two lives of examples/script.txt over a file; the
 # listing of what these two left; the submission over a file whose first area is full of Epochs, so that the first operation
 # changes the area; and the submission by workers. Of each run it looks at this:

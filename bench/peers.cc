@@ -71,7 +71,7 @@ struct Step {
   size_t size;
 };
 
-constexpr Step kSteps[] = {{"app", 120}, {"attempt", 55}, {"attempt-end", 276}, {"app-end", 16}};
+constexpr Step kSteps[] = {{"app", 121}, {"attempt", 55}, {"attempt-end", 276}, {"app-end", 16}};
 
 std::string KeyOf(uint64_t number) {
   std::string key(8, '\0');
@@ -462,7 +462,7 @@ constexpr uint64_t JobOf(uint64_t job) { return 2 * job + 2; }
 constexpr uint64_t EndOf(uint64_t job) { return 2 * job + 3; }
 
 // The sizes of the frames of a job, of its end and of an Epoch in rm_bench.
-constexpr size_t kJobSize = 120, kEndSize = 16, kEpochSize = 13;
+constexpr size_t kJobSize = 121, kEndSize = 16, kEpochSize = 13;
 
 void Pauses(const std::string& name, const std::string& dir, uint64_t live, uint64_t cycles) {
   std::unique_ptr<System> system = SystemOf(name);

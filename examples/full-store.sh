@@ -1,5 +1,5 @@
 #!/bin/bash
-# Writes a script that fills a store: 3,700 jobs whose access lists are as long as may be, 570 bytes each, into areas of
+# Writes a script that fills a store: 3,700 jobs whose access lists are as long as may be, 571 bytes each, into areas of
 # 2,097,152. All of them go on, so that none can be left out. With cluster.json. Look at
 # - the exit status, 9, and the line on standard error: how many bytes the next job needs, and how many are left;
 # - the last lines of the page: the job that didn't fit is `issued`, and not `kept`;
